@@ -1,0 +1,19 @@
+// Reads a dump on standard input, and prints its account.
+use account::account;
+use std::error::AnyError;
+use std::io::Read;
+
+// 512 entries of 4 bytes and one entry more: no byte of a dump after these matters.
+const MOST: u64 = 2052;
+
+fn main(rt: LibcRuntime) -> Result<(), AnyError> {
+    rt.report(run(&rt))
+}
+
+fn run(rt: &LibcRuntime) -> Result<(), AnyError> {
+    let heap = rt.alloc();
+    let mut dump = Vec::new(heap);
+    rt.stdin().take(MOST).read_to_end(&mut dump)?;
+    rt.print(account(heap, dump.as_slice())?)?;
+    Ok(())
+}

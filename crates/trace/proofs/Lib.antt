@@ -1,0 +1,9 @@
+pub mod Bits
+pub mod Places
+pub mod Closure
+pub mod Decision
+pub mod Tables
+pub mod Pushes
+pub mod Tries
+pub mod Asking
+pub mod Readings

@@ -1,0 +1,9 @@
+use borrow.Author.Needs.{needs}
+use Rattle.std.proofs.shelf.Lists.{set-getD, getD-read}
+use Rattle.trace.proofs.messages.MessageTable.receive.Needs as need
+
+pub returns-in-rest : need.returns-in-rest
+returns-in-rest c = search (needs, set-getD, getD-read)
+
+pub returns-then-is-some : need.returns-then-is-some
+returns-then-is-some c = search (needs, set-getD, getD-read)

@@ -1,0 +1,9 @@
+pub mod Entries
+pub mod Forms
+pub mod Rows
+pub mod Adding
+pub mod HappenedBefore
+pub mod Messages
+pub mod Invariants
+pub mod Of
+pub mod Dumps
