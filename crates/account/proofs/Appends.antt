@@ -17,7 +17,8 @@ use Rattle.std.specs.declared.result.Result.the-variants.{Ok, Err}
 use Rattle.clock.specs.declared.refusals.Refusal.{Refusal}
 use Rattle.trace.specs.declared.entries.Entry.{Entry}
 use Rattle.trace.specs.declared.rows.CauseRow.{CauseRow}
-use Rattle.trace.specs.HappenedBefore.{happened, CausesAnswer}
+use Rattle.trace.specs.Decision.{happened}
+use Rattle.trace.specs.Causality.{CausesAnswer}
 use Rattle.trace.specs.Rows.{held, members}
 use Rattle.account.specs.Accounts.{Wrote, numbers-text, causes-of, event-line, event-lines}
 

@@ -1,4 +1,4 @@
--- The account of a dump, as the bytes of its text. Items are parted by one space, and each line ends with byte 10. Assumes nothing.
+-- The account of a dump, as the bytes of its text. One space stands between items, and byte 10 ends a line. Assumes nothing.
 use mathlib.Core.Path.{_≡_}
 use mathlib.Core.List.{List, [], _∷_, _++_}
 use Prim.Native.Nat.{ℕ, zero, suc}
@@ -12,7 +12,7 @@ use Rattle.clock.specs.Ports.{port-number}
 use Rattle.trace.specs.declared.entries.Entry.{Entry}
 use Rattle.trace.specs.declared.entries.Entry.the-variants.{Local, Send, Receipt}
 use Rattle.trace.specs.Dumps.{DumpRead}
-use Rattle.trace.specs.HappenedBefore.{happened}
+use Rattle.trace.specs.Decision.{happened}
 use Rattle.trace.specs.Rows.{members}
 
 -- a piece was written after a text

@@ -1,18 +1,20 @@
 -- What is read of the rows and the direct causes that a trace keeps.
 use mathlib.Core.Path.{_≡_, sym, ap, subst, _∙_}
-use mathlib.Core.Bool.{Bool, true}
+use mathlib.Core.Bool.{Bool}
 use mathlib.Core.List.{List, []}
 use Prim.Native.Nat.{ℕ, _<_}
 use native.Mathlib.Omega.{arith}
-use lib.ListN.{length, getD, take}
+use lib.ListN.{length, getD}
 use Rattle.std.proofs.shelf.Lists.{getD-read}
 use Rattle.std.specs.Orderings.{Decides}
 use Rattle.std.specs.declared.option.Option.the-variants.{None}
 use Rattle.trace.specs.declared.entries.Entry.{Entry}
 use Rattle.trace.specs.declared.causes.DirectCauses.{DirectCauses}
 use Rattle.trace.specs.declared.rows.CauseRow.{CauseRow}
-use Rattle.trace.specs.HappenedBefore.{HappenedBefore, happened, Before, Causes, Direct}
-use Rattle.trace.specs.Invariants.{entry-at, Accepted, direct-at, Caused, row-of, Closed}
+use Rattle.trace.specs.HappenedBefore.{HappenedBefore}
+use Rattle.trace.specs.Decision.{happened}
+use Rattle.trace.specs.Causality.{Before, Causes, Direct}
+use Rattle.trace.specs.Invariants.{Accepted, direct-at, Caused, row-of, Closed}
 use Rattle.trace.specs.Rows.{held}
 use Rattle.trace.proofs.Closure.{is-port-cause, is-message-cause}
 use Rattle.trace.proofs.Decision.{decided, row-happened}

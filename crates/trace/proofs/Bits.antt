@@ -1,15 +1,15 @@
-use mathlib.Core.Path.{_≡_, refl, sym, ap, subst, _∙_}
-use mathlib.Core.Logic.{_⊎_, inl, inr}
+use mathlib.Core.Path.{_≡_, refl, sym, ap, _∙_}
+use mathlib.Core.Logic.{inl, inr}
 use mathlib.Core.Bool.{Bool, true, false, _||_}
-use mathlib.Core.List.{List, [], _∷_, _++_}
+use mathlib.Core.List.{List, [], _∷_}
 use Prim.Native.Nat.{ℕ, zero, suc, _+_, _-_, _*_, _/_, _%_, _^_, _<_, _≤_, max}
-use native.Mathlib.Nat.{add-zero, zero-div, div-eq-of-lt, div-self, mul-mod-left, pow-suc}
+use native.Mathlib.Nat.{add-zero, zero-div, div-eq-of-lt, div-self, pow-suc}
 use native.Mathlib.Numerals.{add-one}
 use native.Mathlib.Omega.{arith}
 use lib.ListN.{getD, length, set, replicate}
 use lib.Dec.{eqb}
 use lib.Bits.{bitOr, or-step}
-use Rattle.std.proofs.shelf.Bits.{or-shr, shl-shr, pow-add, pow-below, pow-pos, one-shl}
+use Rattle.std.proofs.shelf.Bits.{or-shr, shl-shr, pow-add, pow-below, pow-pos}
 use Rattle.std.proofs.shelf.Tests.{eq-eqb, ne-eqb, cases-eq, cases-lt}
 use Rattle.std.proofs.shelf.Ways.{tells}
 use Rattle.std.proofs.shelf.Lists.{length-append, getD-set-same, getD-set-other, getD-past, getD-replicate}

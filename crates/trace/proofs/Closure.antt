@@ -1,19 +1,18 @@
 -- Rows that hold the direct causes of each event and what is in their rows hold exactly what happened before it.
 use mathlib.Core.Path.{_≡_, refl, sym, ap, subst, _∙_}
 use mathlib.Core.Logic.{_⊎_, inl, inr}
-use mathlib.Core.Bool.{Bool, true, false, cond, _||_}
-use mathlib.Core.List.{List, [], _∷_, _++_}
-use Prim.Native.Nat.{ℕ, zero, suc, _+_, _<_, _≤_}
+use mathlib.Core.Bool.{Bool, true, false, _||_}
+use mathlib.Core.List.{List, [], _∷_}
+use Prim.Native.Nat.{ℕ, zero, suc, _<_}
 use native.Mathlib.Nat.{zero-add, not-suc-le-zero}
 use native.Mathlib.Omega.{arith}
 use borrow.Author.Tests.{clash}
-use lib.ListN.{length, getD, take}
-use lib.Dec.{eqb, leb}
+use lib.ListN.{length, take}
+use lib.Dec.{eqb}
 use Rattle.std.proofs.shelf.Tests.{eqb-true, eq-eqb, cases-order, cases-bool}
 use Rattle.std.proofs.shelf.Ways.{tells}
 use Rattle.std.proofs.shelf.Lists.{length-take-le, getD-take}
 use Rattle.std.proofs.shelf.Maps.{nth-getD}
-use Rattle.std.specs.Finite.{nth}
 use Rattle.std.specs.Options.{isSome}
 use Rattle.std.specs.declared.option.Option.{Option}
 use Rattle.std.specs.declared.option.Option.the-variants.{Some, None}
@@ -22,9 +21,10 @@ use Rattle.clock.specs.Refusals.{lowest}
 use Rattle.clock.proofs.Numbers.{port-same}
 use Rattle.trace.specs.declared.entries.Entry.{Entry}
 use Rattle.trace.specs.declared.entries.Entry.the-variants.{Local, Send, Receipt}
-use Rattle.trace.specs.Entries.{port-of, port-number-of, sends, receives}
+use Rattle.trace.specs.Entries.{port-number-of, sends, receives}
 use Rattle.trace.specs.Adding.{sender-of, event-conditions}
-use Rattle.trace.specs.HappenedBefore.{Event, SamePort, SentTo, PortCause, MessageCause, HappenedBefore, on-port, by-message, through, on-port-number, last-on, last-for, send-for, at-or-before}
+use Rattle.trace.specs.HappenedBefore.{Event, SamePort, SentTo, PortCause, MessageCause, HappenedBefore, on-port, by-message, through}
+use Rattle.trace.specs.Decision.{on-port-number, last-on, last-for, send-for, at-or-before}
 use Rattle.trace.specs.Invariants.{entry-at, Accepted, Closed}
 use Rattle.trace.proofs.Places.{no-place, some-same, first-some, first-found, last-none, last-some, IsLast}
 
@@ -169,7 +169,7 @@ module _ (t : List Entry) (acc : Accepted t) where
         (λ a la lb same. r .latest a (omega arith) (omega arith) (eq-eqb _ _ (ap port-number-of (front b a lb) ∙ same))),
       )
 
-  -- a direct cause has a lower number than its event
+  -- direct causes are lower in number
   pub cause-lower : (b c : ℕ) → b < length t → Cause c b → c < b
   unfolding Cause
   cause-lower b c l (inl h) = last-lower b c l h .0

@@ -1,10 +1,10 @@
 -- The decision of happened-before is right, and happened-before is a lawful order.
 use mathlib.Core.Path.{_≡_, refl, sym, ap, _∙_}
-use mathlib.Core.Logic.{_⊎_, inl, inr}
+use mathlib.Core.Logic.{inl, inr}
 use mathlib.Core.Bool.{Bool, true, false, _||_}
 use mathlib.Core.List.{List}
-use Prim.Native.Nat.{ℕ, zero, suc, _<_, _≤_}
-use native.Mathlib.Nat.{not-suc-le-zero, zero-add}
+use Prim.Native.Nat.{ℕ, zero, suc, _<_}
+use native.Mathlib.Nat.{not-suc-le-zero}
 use native.Mathlib.Omega.{arith}
 use borrow.Author.Tests.{clash}
 use lib.ListN.{length, take}
@@ -22,7 +22,9 @@ use Rattle.trace.specs.declared.entries.Entry.{Entry}
 use Rattle.trace.specs.declared.entries.Entry.the-variants.{Local, Send, Receipt}
 use Rattle.trace.specs.declared.rows.CauseRow.{CauseRow}
 use Rattle.trace.specs.Entries.{port-number-of}
-use Rattle.trace.specs.HappenedBefore.{HappenedBefore, through, last-for, send-for, cause-by, port-cause, message-cause, at-or-before, leads-back, happened, Causal}
+use Rattle.trace.specs.HappenedBefore.{HappenedBefore, through}
+use Rattle.trace.specs.Decision.{last-for, send-for, cause-by, port-cause, message-cause, at-or-before, leads-back, happened}
+use Rattle.trace.specs.Causality.{Causal}
 use Rattle.trace.specs.Invariants.{entry-at, Accepted, row-of, Closed}
 use Rattle.trace.proofs.Places.{no-place}
 use Rattle.trace.proofs.Closure.{last-of, sender-some, before-lower, row-exact, row-complete}

@@ -1,18 +1,16 @@
 -- What the first and the last place of a kind of entry say.
-use mathlib.Core.Path.{_≡_, refl, sym, ap, subst, _∙_}
-use mathlib.Core.Logic.{_⊎_, inl, inr}
+use mathlib.Core.Path.{_≡_, refl, sym, _∙_}
 use mathlib.Core.Bool.{Bool, true, false, cond}
-use mathlib.Core.List.{List, [], _∷_, _++_}
-use Prim.Native.Nat.{ℕ, zero, suc, _+_, _<_, _≤_}
-use native.Mathlib.Nat.{add-zero, zero-add, not-suc-le-zero, le-of-suc-le-suc}
+use mathlib.Core.List.{List, [], _∷_}
+use Prim.Native.Nat.{ℕ, zero, suc, _+_, _<_}
+use native.Mathlib.Nat.{add-zero, not-suc-le-zero, le-of-suc-le-suc}
 use native.Mathlib.Omega.{arith}
-use lib.ListN.{length, getD, take}
-use lib.Dec.{eqb}
+use lib.ListN.{length}
 use Rattle.std.specs.declared.option.Option.{Option}
 use Rattle.std.specs.declared.option.Option.the-variants.{Some, None}
 use Rattle.trace.specs.declared.entries.Entry.{Entry}
 use Rattle.trace.specs.Adding.{first-from}
-use Rattle.trace.specs.HappenedBefore.{last-from, or-else, on-port-number}
+use Rattle.trace.specs.Decision.{last-from, or-else, on-port-number}
 use Rattle.trace.specs.Invariants.{entry-at}
 
 pub no-place : {A X : Type 0} {a : A} → _≡_ {A = Option A} (Some a) None → X

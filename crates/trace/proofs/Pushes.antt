@@ -1,6 +1,6 @@
 -- One event more: what the trace keeps of its events, but for the table of messages.
 use mathlib.Core.Path.{_≡_, refl, sym, ap, subst, _∙_}
-use mathlib.Core.Logic.{_⊎_, inl, inr}
+use mathlib.Core.Logic.{inl, inr}
 use mathlib.Core.Bool.{Bool, true, false, cond, _||_}
 use mathlib.Core.List.{List, [], _∷_, _++_}
 use Prim.Native.Nat.{ℕ, suc, _+_, _<_, _≤_}
@@ -8,7 +8,7 @@ use native.Mathlib.Nat.{zero-add, add-zero, not-suc-le-zero}
 use native.Mathlib.Omega.{arith}
 use borrow.Author.Tests.{lt-ltb}
 use lib.ListN.{length, getD, take, set}
-use lib.Dec.{eqb, ltb}
+use lib.Dec.{eqb}
 use Rattle.std.proofs.shelf.Tests.{eq-eqb, ne-eqb, cases-eq}
 use Rattle.std.proofs.shelf.Lists.{length-take-le, getD-append-left, getD-push, length-push, take-append-le, take-at, getD-set-same, getD-set-other, getD-replicate}
 use Rattle.std.specs.declared.option.Option.{Option}
@@ -17,7 +17,7 @@ use Rattle.trace.specs.declared.entries.Entry.{Entry}
 use Rattle.trace.specs.declared.causes.DirectCauses.{DirectCauses}
 use Rattle.trace.specs.declared.rows.CauseRow.{CauseRow}
 use Rattle.trace.specs.Entries.{port-number-of}
-use Rattle.trace.specs.HappenedBefore.{on-port-number, or-else, last-from, last-on, last-for, send-for, at-or-before}
+use Rattle.trace.specs.Decision.{on-port-number, or-else, last-from, last-on, last-for, send-for, at-or-before}
 use Rattle.trace.specs.Invariants.{entry-at, Acceptable, Accepted, Latest, direct-at, Caused, is-below, Acyclic, row-of, Closed}
 use Rattle.trace.specs.Messages.{same}
 use Rattle.trace.specs.Rows.{held}

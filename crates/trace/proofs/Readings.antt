@@ -1,24 +1,23 @@
 -- Reading a dump: its trace and its refusal are the only ones, and after 2052 bytes no further byte matters.
 use mathlib.Core.Path.{_≡_, refl, sym, ap, subst, _∙_}
-use mathlib.Core.Logic.{_⊎_, inl, inr}
-use mathlib.Core.Bool.{Bool, true, false, cond}
+use mathlib.Core.Logic.{inl, inr}
+use mathlib.Core.Bool.{false}
 use mathlib.Core.List.{List, [], _∷_, _++_}
-use Prim.Native.Nat.{ℕ, zero, suc, _+_, _*_, _-_, _<_, _≤_}
+use Prim.Native.Nat.{ℕ, suc, _+_, _*_, _-_, _<_, _≤_}
 use native.Mathlib.Nat.{not-suc-le-zero}
 use native.Mathlib.Omega.{arith}
-use lib.ListN.{length, getD, take, drop}
-use lib.Dec.{eqb, leb, ltb}
+use lib.ListN.{length, drop}
+use lib.Dec.{eqb, ltb}
 use Rattle.std.proofs.shelf.Tests.{cases-lt}
 use Rattle.std.proofs.shelf.Ways.{tells}
-use Rattle.std.proofs.shelf.Lists.{append-nil, append-assoc, append-cancel-left, length-append, length-drop, length-take-le, take-append-drop, drop-drop, getD-append-left, drop-all}
+use Rattle.std.proofs.shelf.Lists.{append-nil, append-assoc, append-cancel-left, length-append, length-drop, length-take-le, take-append-drop, drop-drop, drop-all}
 use Rattle.std.specs.Joined.{joined}
-use Rattle.clock.specs.Refusals.{lowest}
 use Rattle.trace.specs.declared.entries.Entry.{Entry}
 use Rattle.trace.specs.declared.entries.Entry.the-variants.{Local, Send, Receipt}
 use Rattle.trace.specs.declared.added.Added.{Added}
-use Rattle.trace.specs.Forms.{form, kind-byte, size-of, entry-of, byte-conditions}
-use Rattle.trace.specs.Adding.{refusal-of, Accepts, Reached}
-use Rattle.trace.specs.Dumps.{Ends, Dump, DumpRead}
+use Rattle.trace.specs.Forms.{form, kind-byte, size-of, entry-of}
+use Rattle.trace.specs.Adding.{refusal-of, Accepts}
+use Rattle.trace.specs.Dumps.{Ends, DumpOf, DumpRead}
 use Rattle.trace.specs.Invariants.{Accepted}
 use Rattle.trace.proofs.Tries.{form-entry, form-accepted, accepted-at, reached, reached-accepted, readable}
 
@@ -60,7 +59,7 @@ only-from past (e ∷ t) (f ∷ u) rest left r s at au q h g =
     let w = only-from (past ++ e ∷ []) t u rest left r s (subst Accepted (sym (move t)) at) (subst Accepted fu au) q″ (subst (λ (l : List Entry). Ends l rest r) (sym (move t)) h) (subst (λ (l : List Entry). Ends l left s) fu g) in
     (fu ∙ w .0 ∙ move t, w .1)
 
-pub dump-only : (bytes : List ℕ) (t u : List Entry) (r s : ℕ) → Dump bytes t r → Dump bytes u s → (u ≡ t) × (s ≡ r)
+pub dump-only : (bytes : List ℕ) (t u : List Entry) (r s : ℕ) → DumpOf bytes t r → DumpOf bytes u s → (u ≡ t) × (s ≡ r)
 dump-only bytes t u r s d e =
     only-from [] t u (d .rest) (e .rest) r s (reached-accepted t (d .reached)) (reached-accepted u (e .reached)) (sym (d .holds) ∙ e .holds) (d .ends) (e .ends)
 
@@ -126,7 +125,7 @@ ends-refused : (t : List Entry) (rest : List ℕ) (r : ℕ) → 1 ≤ length res
 ends-refused t [] r l h = absurd (not-suc-le-zero l)
 ends-refused t (b ∷ bs) r l h = h
 
-dump-enough : (bytes : List ℕ) (t : List Entry) (r : ℕ) → Dump bytes t r → 2052 ≤ length bytes → (more : List ℕ) → Dump (bytes ++ more) t r
+dump-enough : (bytes : List ℕ) (t : List Entry) (r : ℕ) → DumpOf bytes t r → 2052 ≤ length bytes → (more : List ℕ) → DumpOf (bytes ++ more) t r
 dump-enough bytes t r d l more =
     let rest = d .rest in
     let few = few-events t (reached-accepted t (d .reached)) in
@@ -140,7 +139,7 @@ dump-enough bytes t r d l more =
       ends = ends-from t (rest ++ more) r (omega (arith, length-append rest more)) (refusal-more t rest more four ∙ e .0) (e .1);
     }
 
-dump-read : (bytes : List ℕ) (t : List Entry) (r : ℕ) → Dump bytes t r → DumpRead bytes t r
+dump-read : (bytes : List ℕ) (t : List Entry) (r : ℕ) → DumpOf bytes t r → DumpRead bytes t r
 dump-read bytes t r d = record { is = d; only = λ u s e. dump-only bytes t u r s d e; enough = dump-enough bytes t r d }
 
 -- the bytes are used up

@@ -1,14 +1,14 @@
 -- One event more: the table of messages still agrees with the events.
 use mathlib.Core.Path.{_≡_, refl, sym, ap, subst, _∙_}
-use mathlib.Core.Logic.{_⊎_, inl, inr}
+use mathlib.Core.Logic.{inl, inr}
 use mathlib.Core.Bool.{Bool, true, false, cond}
 use mathlib.Core.List.{List, [], _∷_, _++_}
 use Prim.Native.Nat.{ℕ, suc, _+_, _<_}
 use native.Mathlib.Nat.{add-zero, zero-add}
 use native.Mathlib.Omega.{arith}
 use borrow.Author.Tests.{clash}
-use lib.ListN.{length, getD, set, replicate}
-use lib.Dec.{eqb, leb}
+use lib.ListN.{length, set, replicate}
+use lib.Dec.{eqb}
 use Rattle.std.proofs.shelf.Tests.{eqb-true, eq-eqb, ne-eqb, cases-eq, cases-bool}
 use Rattle.std.proofs.shelf.Ways.{tells}
 use Rattle.std.proofs.shelf.Lists.{getD-set-same, getD-set-other, getD-replicate, length-set}
@@ -21,7 +21,7 @@ use Rattle.trace.specs.declared.entries.Entry.the-variants.{Local, Send, Recei
 use Rattle.trace.specs.declared.messages.MessageRecord.{MessageRecord}
 use Rattle.trace.specs.Entries.{sends, receives, message-number}
 use Rattle.trace.specs.Adding.{first-from, sender-of, receiver-of, event-conditions}
-use Rattle.trace.specs.HappenedBefore.{or-else, send-for}
+use Rattle.trace.specs.Decision.{or-else, send-for}
 use Rattle.trace.specs.Messages.{unused, record-at, same, Agrees, send-conditions, receipt-conditions, note-conditions, noted, sent-by}
 
 pub same-eq : (a b : Option ℕ) → same a b ≡ true → a ≡ b

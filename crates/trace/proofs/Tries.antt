@@ -1,22 +1,20 @@
 -- Tries: what adding answers is what the try gives, and every trace is what some tries leave.
 use mathlib.Core.Path.{_≡_, refl, sym, ap, subst, _∙_}
-use mathlib.Core.Logic.{_⊎_, inl, inr}
+use mathlib.Core.Logic.{inl, inr}
 use mathlib.Core.Bool.{Bool, true, false, cond}
 use mathlib.Core.List.{List, [], _∷_, _++_, map}
-use Prim.Native.Nat.{ℕ, suc, _+_, _*_, _/_, _%_, _<_, _≤_}
+use Prim.Native.Nat.{ℕ, suc, _+_, _*_, _/_, _%_, _<_}
 use native.Mathlib.Omega.{arith}
-use borrow.Author.Tests.{eq-eqb, lt-leb, le-ltb}
-use lib.ListN.{length, take}
-use lib.Dec.{eqb, ltb}
+use lib.ListN.{length}
+use lib.Dec.{eqb}
 use Rattle.std.proofs.shelf.Tests.{cases-bool, ne-eqb, eqb-true, eqb-false}
 use Rattle.std.proofs.shelf.Ways.{tells}
 use Rattle.std.proofs.shelf.Lists.{append-nil, append-assoc, take-at, getD-at, length-append}
 use Rattle.std.specs.declared.result.Result.{Result}
 use Rattle.std.specs.declared.result.Result.the-variants.{Ok, Err}
-use Rattle.clock.specs.declared.ports.Port.{Port}
 use Rattle.clock.specs.declared.refusals.Refusal.{Refusal}
-use Rattle.clock.specs.Ports.{port-number, port-at}
-use Rattle.clock.specs.Refusals.{refusal-number, lowest}
+use Rattle.clock.specs.Ports.{port-at}
+use Rattle.clock.specs.Refusals.{lowest}
 use Rattle.clock.proofs.Numbers.{port-back, port-low, refusal-positive}
 use Rattle.trace.specs.declared.entries.Entry.{Entry}
 use Rattle.trace.specs.declared.entries.Entry.the-variants.{Local, Send, Receipt}
@@ -24,7 +22,7 @@ use Rattle.trace.specs.declared.added.Added.{Added}
 use Rattle.trace.specs.Entries.{message-number}
 use Rattle.trace.specs.Forms.{form, kind-byte, port-byte, message-bytes, size-of, entry-of, byte-conditions}
 use Rattle.trace.specs.Adding.{event-conditions, refusal-of, tried, after-from, after, Reached, Adds}
-use Rattle.trace.specs.HappenedBefore.{CausalRuns}
+use Rattle.trace.specs.Causality.{CausalRuns}
 use Rattle.trace.specs.Invariants.{entry-at, Acceptable, Accepted}
 use Rattle.trace.proofs.Decision.{causal}
 use Rattle.trace.proofs.Pushes.{accepted-push, accepted-none}

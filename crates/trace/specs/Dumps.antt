@@ -1,4 +1,4 @@
--- A dump: entries tried one after another until the bytes are used up or one is refused. Assumes nothing.
+-- A dump: the forms of entries, one after another. Assumes nothing.
 use mathlib.Core.Path.{_≡_}
 use mathlib.Core.List.{List, [], _∷_, _++_}
 use Prim.Native.Nat.{ℕ, _≤_}
@@ -23,7 +23,7 @@ Ends t [] r = r ≡ 0
 Ends t (b ∷ bs) r = (refusal-of t (b ∷ bs) ≡ r) × (r ≡ 0 → ⊥)
 
 -- The bytes are the forms of the events of t, and then what ends the dump with the refusal r, 0 for none.
-pub record Dump (bytes : List ℕ) (t : List Entry) (r : ℕ) : Type 0 where
+pub record DumpOf (bytes : List ℕ) (t : List Entry) (r : ℕ) : Type 0 where
   pub reached : Reached t
   pub rest : List ℕ
   pub holds : bytes ≡ joined form t ++ rest
@@ -31,8 +31,8 @@ pub record Dump (bytes : List ℕ) (t : List Entry) (r : ℕ) : Type 0 where
 
 -- what is told of a dump: its trace and its refusal
 pub record DumpRead (bytes : List ℕ) (t : List Entry) (r : ℕ) : Type 0 where
-  pub is : Dump bytes t r
+  pub is : DumpOf bytes t r
   -- no other trace and refusal would do
-  pub only : (u : List Entry) (s : ℕ) → Dump bytes u s → (u ≡ t) × (s ≡ r)
+  pub only : (u : List Entry) (s : ℕ) → DumpOf bytes u s → (u ≡ t) × (s ≡ r)
   -- after 512 entries of 4 bytes and one entry more, no further byte matters
-  pub enough : 2052 ≤ length bytes → (more : List ℕ) → Dump (bytes ++ more) t r
+  pub enough : 2052 ≤ length bytes → (more : List ℕ) → DumpOf (bytes ++ more) t r

@@ -15,7 +15,7 @@ use Rattle.trace.specs.declared.causes.DirectCauses.{DirectCauses}
 use Rattle.trace.specs.declared.rows.CauseRow.{CauseRow}
 use Rattle.trace.specs.Entries.{message-number}
 use Rattle.trace.specs.Adding.{event-conditions}
-use Rattle.trace.specs.HappenedBefore.{last-on, last-for, send-for, at-or-before}
+use Rattle.trace.specs.Decision.{last-on, last-for, send-for, at-or-before}
 use Rattle.trace.specs.Messages.{same}
 use Rattle.trace.specs.Rows.{held}
 
@@ -50,7 +50,7 @@ abbrev pub is-below : ℕ → Option ℕ → Bool
 is-below n None = true
 is-below n (Some c) = ltb c n
 
--- a direct cause has a lower number than its event, so no event causes itself
+-- direct causes are lower in number than their event, so none leads back to it
 abbrev pub Acyclic : List DirectCauses → List Entry → Type 0
 Acyclic ds t = (j : ℕ) → j < length t → (is-below j (direct-at ds j .previous) ≡ true) × (is-below j (direct-at ds j .send) ≡ true)
 

@@ -3,6 +3,8 @@ pub mod Forms
 pub mod Rows
 pub mod Adding
 pub mod HappenedBefore
+pub mod Decision
+pub mod Causality
 pub mod Messages
 pub mod Invariants
 pub mod Of

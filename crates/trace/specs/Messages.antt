@@ -1,4 +1,4 @@
--- The table of messages: for each number the event that sent it and the one that received it. Assumes nothing.
+-- The table of messages: the sending and the receiving event of each number. Assumes nothing.
 use mathlib.Core.Path.{_≡_}
 use mathlib.Core.Bool.{Bool, true, false, not}
 use mathlib.Core.List.{List, [], _∷_}

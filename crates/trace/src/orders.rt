@@ -1,6 +1,7 @@
 ghost use mathlib.Core.Path.{_≡_};
 ghost use Rattle.std.specs.Orderings.{Decides};
-ghost use Rattle.trace.specs.HappenedBefore.{HappenedBefore, happened};
+ghost use Rattle.trace.specs.HappenedBefore.{HappenedBefore};
+ghost use Rattle.trace.specs.Decision.{happened};
 ghost use Rattle.trace.specs.Of.{events-of};
 use crate::traces::Trace;
 use clock::Order;

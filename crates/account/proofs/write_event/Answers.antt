@@ -1,7 +1,3 @@
-use mathlib.Core.Path.{ap}
-use mathlib.Core.List.{List, _++_}
-use Prim.Native.Nat.{ℕ}
-use lib.Chars.{codes}
 use Rattle.trace.proofs.Closure.{event-at}
 use Rattle.trace.specs.Of.{events-of}
 use Rattle.account.proofs.Appends.{then-wrote, wrote-as, causes-ok, causes-text}

@@ -1,10 +1,9 @@
-use mathlib.Core.Path.{ap, sym, _∙_}
+use mathlib.Core.Path.{ap, _∙_}
 use mathlib.Core.List.{List, _++_}
 use Prim.Native.Nat.{ℕ}
 use lib.Chars.{codes}
 use Rattle.std.proofs.shelf.Lists.{append-assoc}
 use Rattle.std.specs.Written.{decimal}
-use Rattle.trace.specs.Dumps.{refused-number}
 use Rattle.account.specs.Accounts.{first-line}
 use Rattle.account.proofs.Appends.{then-wrote, wrote-as}
 use Rattle.account.proofs.write_first.Needs as need

@@ -6,7 +6,7 @@ ghost use Rattle.std.specs.Vec.{made};
 ghost use Rattle.std.specs.Of.Vec.{vec-items, vec-len};
 ghost use Rattle.trace.specs.Entries.{message-number};
 ghost use Rattle.trace.specs.Adding.{tried, EntryAdds, Adds};
-ghost use Rattle.trace.specs.HappenedBefore.{at-or-before};
+ghost use Rattle.trace.specs.Decision.{at-or-before};
 ghost use Rattle.trace.specs.Invariants.{is-below, row-of};
 ghost use Rattle.trace.specs.Of.{events-of};
 ghost use Rattle.trace.specs.Rows.{held};

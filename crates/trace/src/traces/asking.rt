@@ -1,6 +1,6 @@
 ghost use mathlib.Core.Path.{_≡_};
 ghost use Rattle.trace.specs.Adding.{Reached};
-ghost use Rattle.trace.specs.HappenedBefore.{CausalRuns, BeforeAnswer, CausesAnswer, DirectAnswer};
+ghost use Rattle.trace.specs.Causality.{CausalRuns, BeforeAnswer, CausesAnswer, DirectAnswer};
 ghost use Rattle.trace.specs.Of.{events-of};
 use super::Trace;
 use crate::causes::DirectCauses;

@@ -1,9 +1,8 @@
 use borrow.Author.Needs.{needs}
-use mathlib.Core.Path.{_≡_, ap, sym, _∙_, refl}
-use Prim.Native.Nat.{ℕ, zero, _<_, _≤_, _+_, _*_, _^_}
+use mathlib.Core.Path.{_≡_, ap, sym, _∙_}
+use Prim.Native.Nat.{_<_, _*_, _^_}
 use native.Mathlib.Omega.{arith}
 use lib.ListN.{getD}
-use lib.Count.{ones}
 use Rattle.std.proofs.shelf.Bits.{ones-le}
 use Rattle.trace.specs.Rows.{held}
 use Rattle.trace.proofs.Bits.{count-of, count-none, count-word}

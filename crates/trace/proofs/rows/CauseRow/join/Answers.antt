@@ -1,8 +1,6 @@
 use borrow.Author.Needs.{needs}
 use mathlib.Core.Path.{_≡_}
-use Prim.Native.Nat.{ℕ, _<_}
-use lib.ListN.{length, getD}
-use lib.Bits.{bitOr}
+use lib.ListN.{length}
 use native.Mathlib.Omega.{arith}
 use Rattle.trace.proofs.Bits.{held-join}
 use Rattle.trace.proofs.rows.CauseRow.join.Needs as need

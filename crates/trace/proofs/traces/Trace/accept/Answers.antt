@@ -1,16 +1,14 @@
 use borrow.Author.Needs.{needs}
 use mathlib.Core.Path.{_≡_, sym, subst, ap, _∙_}
-use mathlib.Core.Bool.{true}
-use mathlib.Core.List.{List, [], _∷_, _++_}
+use mathlib.Core.List.{[], _∷_, _++_}
 use Prim.Native.Nat.{ℕ, _<_, _+_}
-use native.Mathlib.Omega.{arith}
 use lib.ListN.{length, set, length-set}
 use Rattle.std.specs.Of.Vec.{vec-items, vec-len}
 use Rattle.std.specs.declared.option.Option.{Option}
 use Rattle.std.specs.declared.option.Option.the-variants.{Some}
 use Rattle.clock.specs.Ports.{port-number}
 use Rattle.trace.specs.Entries.{port-number-of}
-use Rattle.trace.specs.HappenedBefore.{last-for, send-for}
+use Rattle.trace.specs.Decision.{last-for, send-for}
 use Rattle.trace.specs.Messages.{Agrees, noted}
 use Rattle.trace.specs.Invariants.{Accepted, Latest, Caused, is-below, Acyclic, row-of, Closed}
 use Rattle.trace.proofs.Tables.{agrees-push, refusal-noted, sent-is, length-noted}

@@ -1,8 +1,6 @@
-use borrow.Author.Needs.{needs}
-use mathlib.Core.Path.{_≡_, refl, sym, ap, _∙_}
+use mathlib.Core.Path.{refl, ap, _∙_}
 use mathlib.Core.List.{[], _∷_, _++_}
 use Rattle.std.proofs.shelf.Results.{err-from-errBy}
-use Rattle.std.specs.Of.Vec.{vec-items}
 use Rattle.std.specs.declared.result.Result.the-variants.{Ok}
 use Rattle.clock.proofs.Numbers.{refusal-positive}
 use Rattle.trace.specs.declared.added.Added.{Added}
