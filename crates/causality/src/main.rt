@@ -2,9 +2,7 @@
 use account::account;
 use std::error::AnyError;
 use std::io::Read;
-
-// 512 entries of 4 bytes and one entry more: no byte of a dump after these matters.
-const MOST: u64 = 2052;
+use trace::Dump;
 
 fn main(rt: LibcRuntime) -> Result<(), AnyError> {
     rt.report(run(&rt))
@@ -13,7 +11,7 @@ fn main(rt: LibcRuntime) -> Result<(), AnyError> {
 fn run(rt: &LibcRuntime) -> Result<(), AnyError> {
     let heap = rt.alloc();
     let mut dump = Vec::new(heap);
-    rt.stdin().take(MOST).read_to_end(&mut dump)?;
+    rt.stdin().take(Dump::MOST_BYTES).read_to_end(&mut dump)?;
     rt.print(account(heap, dump.as_slice())?)?;
     Ok(())
 }

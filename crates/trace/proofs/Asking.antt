@@ -18,7 +18,7 @@ use Rattle.trace.specs.Invariants.{Accepted, direct-at, Caused, row-of, Closed
 use Rattle.trace.specs.Rows.{held}
 use Rattle.trace.proofs.Closure.{is-port-cause, is-message-cause}
 use Rattle.trace.proofs.Decision.{decided, row-happened}
-use Rattle.trace.proofs.Tables.{same-eq}
+use Rattle.trace.proofs.Options.{same-eq}
 
 module _ (t : List Entry) (acc : Accepted t) (j : ℕ) (event : j < length t) where
   decides : (b : Bool) (i : ℕ) → b ≡ happened t i j → Decides b (HappenedBefore t i j)

@@ -1,7 +1,7 @@
 -- Rows that hold the direct causes of each event and what is in their rows hold exactly what happened before it.
 use mathlib.Core.Path.{_≡_, refl, sym, ap, subst, _∙_}
 use mathlib.Core.Logic.{_⊎_, inl, inr}
-use mathlib.Core.Bool.{Bool, true, false, _||_}
+use mathlib.Core.Bool.{Bool, true, false}
 use mathlib.Core.List.{List, [], _∷_}
 use Prim.Native.Nat.{ℕ, zero, suc, _<_}
 use native.Mathlib.Nat.{zero-add, not-suc-le-zero}
@@ -9,7 +9,7 @@ use native.Mathlib.Omega.{arith}
 use borrow.Author.Tests.{clash}
 use lib.ListN.{length, take}
 use lib.Dec.{eqb}
-use Rattle.std.proofs.shelf.Tests.{eqb-true, eq-eqb, cases-order, cases-bool}
+use Rattle.std.proofs.shelf.Tests.{eqb-true, eq-eqb, cases-order, cases-bool, or-cases, or-left, or-right}
 use Rattle.std.proofs.shelf.Ways.{tells}
 use Rattle.std.proofs.shelf.Lists.{length-take-le, getD-take}
 use Rattle.std.proofs.shelf.Maps.{nth-getD}
@@ -26,30 +26,12 @@ use Rattle.trace.specs.Adding.{sender-of, event-conditions}
 use Rattle.trace.specs.HappenedBefore.{Event, SamePort, SentTo, PortCause, MessageCause, HappenedBefore, on-port, by-message, through}
 use Rattle.trace.specs.Decision.{on-port-number, last-on, last-for, send-for, at-or-before}
 use Rattle.trace.specs.Invariants.{entry-at, Accepted, Closed}
-use Rattle.trace.proofs.Places.{no-place, some-same, first-some, first-found, last-none, last-some, IsLast}
-
-or-cases : (x y : Bool) → (x || y) ≡ true → (x ≡ true) ⊎ (y ≡ true)
-or-cases true y h = inl refl
-or-cases false y h = inr h
-
-or-left : (x y : Bool) → x ≡ true → (x || y) ≡ true
-or-left x y h = rw h refl
-
-or-right : (x y : Bool) → y ≡ true → (x || y) ≡ true
-or-right true y h = refl
-or-right false y h = h
-
-some-of : (o : Option ℕ) → isSome o ≡ true → (c : ℕ) × (o ≡ Some c)
-some-of (Some c) h = (c, refl)
-some-of None h = absurd (clash h)
-
-none-of : (o : Option ℕ) → isSome o ≡ false → o ≡ None
-none-of (Some c) h = absurd (clash (sym h))
-none-of None h = refl
+use Rattle.trace.proofs.Options.{not-none, some-same, some-of, none-of}
+use Rattle.trace.proofs.Places.{first-some, first-found, last-none, last-some, IsLast}
 
 -- an event is the entry at its place
 pub event-at : (t : List Entry) (i : ℕ) (e : Entry) → Event t i e → (i < length t) × (entry-at t i ≡ e)
-event-at [] i e h = no-place (sym h)
+event-at [] i e h = not-none (sym h)
 event-at (x ∷ t) zero e h = (omega arith, cc)
 event-at (x ∷ t) (suc i) e h = let r = event-at t i e h in ((let l = r .0 in omega arith), r .1)
 
@@ -112,8 +94,8 @@ unfolding sender-of
 sender-found t n i l h none = first-found (sends n) 0 i t l h none
 
 send-of : (t : List Entry) (e : Entry) (c : ℕ) → send-for t e ≡ Some c → (n : ℕ) × (receives n e ≡ true) × (sender-of n t ≡ Some c)
-send-of t (Local p) c h = no-place (sym h)
-send-of t (Send p m) c h = no-place (sym h)
+send-of t (Local p) c h = not-none (sym h)
+send-of t (Send p m) c h = not-none (sym h)
 send-of t (Receipt p m) c h = (m, eq-eqb m m refl, h)
 
 pub last-of : (p : ℕ) (t : List Entry) (c : ℕ) → last-on p t ≡ Some c → IsLast p 0 c t
@@ -213,7 +195,7 @@ module _ (t : List Entry) (acc : Accepted t) where
   -- the send of what j receives, as a relation
   pub is-message-cause : (j : ℕ) (o : Option ℕ) → j < length t → send-for (take j t) (entry-at t j) ≡ o → MessageCause t j o
   is-message-cause j None l h = λ i s.
-      let w = carried t i j s in no-place (sym (send-cause (w .message) i j (w .from) l (w .sent) (w .received)) ∙ h)
+      let w = carried t i j s in not-none (sym (send-cause (w .message) i j (w .from) l (w .sent) (w .received)) ∙ h)
   is-message-cause j (Some c) l h =
       let s = send-of (take j t) (entry-at t j) c h in
       let r = send-lower j c (s .0) l (s .2) in
@@ -234,7 +216,7 @@ module _ (t : List Entry) (acc : Accepted t) where
 
     under-from : (o : Option ℕ) (a c : ℕ) → o ≡ Some c → In a c → at-or-before row o a ≡ true
     unfolding In
-    under-from None a c e i = no-place (sym e)
+    under-from None a c e i = not-none (sym e)
     under-from (Some d) a c e (inl q) = or-left _ _ (eq-eqb a d (q ∙ sym (some-same e)))
     under-from (Some d) a c e (inr r) = or-right (eqb a d) _ (ap (λ (k : ℕ). row k a) (some-same e) ∙ r)
 

@@ -26,7 +26,7 @@ use Rattle.trace.specs.HappenedBefore.{HappenedBefore, through}
 use Rattle.trace.specs.Decision.{last-for, send-for, cause-by, port-cause, message-cause, at-or-before, leads-back, happened}
 use Rattle.trace.specs.Causality.{Causal}
 use Rattle.trace.specs.Invariants.{entry-at, Accepted, row-of, Closed}
-use Rattle.trace.proofs.Places.{no-place}
+use Rattle.trace.proofs.Options.{not-none}
 use Rattle.trace.proofs.Closure.{last-of, sender-some, before-lower, row-exact, row-complete}
 
 -- a direct cause comes from the events before
@@ -34,22 +34,22 @@ pub last-before : (past : List Entry) (e : Entry) (c : ℕ) → last-for past e 
 last-before past e c h = let r = last-of (port-number-of e) past c h in let x = r .at in let y = r .within in omega arith
 
 pub send-before : (past : List Entry) (e : Entry) (c : ℕ) → send-for past e ≡ Some c → c < length past
-send-before past (Local p) c h = no-place (sym h)
-send-before past (Send p n) c h = no-place (sym h)
+send-before past (Local p) c h = not-none (sym h)
+send-before past (Send p n) c h = not-none (sym h)
 send-before past (Receipt p n) c h = sender-some past n c h .0
+
+pub both-same : {a b c d : Bool} → a ≡ b → c ≡ d → (a || c) ≡ (b || d)
+both-same p q = cc
 
 module _ (t : List Entry) where
   lower : (cause : List Entry → Entry → Option ℕ) → ((past : List Entry) (e : Entry) (c : ℕ) → cause past e ≡ Some c → c < length past)
       → (j : ℕ) (o : Option Entry) (c : ℕ) → cause-by cause (take j t) o ≡ Some c → c < j
-  lower cause before j None c h = no-place (sym h)
+  lower cause before j None c h = not-none (sym h)
   lower cause before j (Some e) c h = let l = before (take j t) e c h in let m = length-take j t in omega arith
 
   at-same : (f g : ℕ → ℕ → Bool) (o : Option ℕ) (i : ℕ) → ((c : ℕ) → o ≡ Some c → f c i ≡ g c i) → at-or-before f o i ≡ at-or-before g o i
   at-same f g None i h = refl
   at-same f g (Some c) i h = ap (λ (b : Bool). eqb i c || b) (h c refl)
-
-  both-same : {a b c d : Bool} → a ≡ b → c ≡ d → (a || c) ≡ (b || d)
-  both-same p q = cc
 
   -- more turns than j lead no further
   leads-same : (m n j i : ℕ) → j < m → j < n → leads-back t m j i ≡ leads-back t n j i

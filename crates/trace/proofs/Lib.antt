@@ -1,4 +1,5 @@
 pub mod Bits
+pub mod Options
 pub mod Places
 pub mod Closure
 pub mod Decision

@@ -12,16 +12,11 @@ use Rattle.trace.specs.declared.entries.Entry.{Entry}
 use Rattle.trace.specs.Adding.{first-from}
 use Rattle.trace.specs.Decision.{last-from, or-else, on-port-number}
 use Rattle.trace.specs.Invariants.{entry-at}
-
-pub no-place : {A X : Type 0} {a : A} → _≡_ {A = Option A} (Some a) None → X
-no-place {A} {X} {a} e = let z : _≡_ {A = ℕ} 0 1 = cc in absurd (let b : ⊥ = omega arith in b)
-
-pub some-same : {a b : ℕ} → _≡_ {A = Option ℕ} (Some a) (Some b) → a ≡ b
-some-same e = cc
+use Rattle.trace.proofs.Options.{not-none, some-same}
 
 -- a first place has an entry that passes
 pub first-some : (t : Entry → Bool) (k c : ℕ) (es : List Entry) → first-from t k es ≡ Some c → (i : ℕ) × (c ≡ k + i) × (i < length es) × (t (entry-at es i) ≡ true)
-first-some t k c [] h = no-place (sym h)
+first-some t k c [] h = not-none (sym h)
 first-some t k c (e ∷ es) h = go (first-some t (suc k) c es) (t e) refl h
   where
     go : (first-from t (suc k) es ≡ Some c → (i : ℕ) × (c ≡ suc k + i) × (i < length es) × (t (entry-at es i) ≡ true)) → (b : Bool) → t e ≡ b → cond b (Some k) (first-from t (suc k) es) ≡ Some c → (i : ℕ) × (c ≡ k + i) × (i < suc (length es)) × (t (entry-at (e ∷ es) i) ≡ true)
@@ -34,7 +29,7 @@ first-found t k i [] l h n = not-suc-le-zero l
 first-found t k i (e ∷ es) l h n = go (λ j. first-found t (suc k) j es) (t e) refl i l h n
   where
     go : ((j : ℕ) → j < length es → t (entry-at es j) ≡ true → first-from t (suc k) es ≡ None → ⊥) → (b : Bool) → t e ≡ b → (i : ℕ) → i < suc (length es) → t (entry-at (e ∷ es) i) ≡ true → cond b (Some k) (first-from t (suc k) es) ≡ None → ⊥
-    go rec true q i l h n = no-place n
+    go rec true q i l h n = not-none n
     go rec false q zero l h n = let z : true ≡ false = sym h ∙ q in (let y : _≡_ {A = ℕ} 0 1 = cc in omega arith)
     go rec false q (suc i) l h n = rec i (le-of-suc-le-suc l) h n
 
@@ -43,8 +38,8 @@ last-none p k i [] l h n = not-suc-le-zero l
 last-none p k i (e ∷ es) l h n = go (λ j. last-none p (suc k) j es) (last-from p (suc k) es) refl (on-port-number p e) refl i l h n
   where
     go : ((j : ℕ) → j < length es → on-port-number p (entry-at es j) ≡ true → last-from p (suc k) es ≡ None → ⊥) → (o : Option ℕ) → last-from p (suc k) es ≡ o → (b : Bool) → on-port-number p e ≡ b → (i : ℕ) → i < suc (length es) → on-port-number p (entry-at (e ∷ es) i) ≡ true → or-else o (cond b (Some k) None) ≡ None → ⊥
-    go rec (Some c) r b q i l h n = no-place n
-    go rec None r true q i l h n = no-place n
+    go rec (Some c) r b q i l h n = not-none n
+    go rec None r true q i l h n = not-none n
     go rec None r false q zero l h n = let z : true ≡ false = sym h ∙ q in (let y : _≡_ {A = ℕ} 0 1 = cc in omega arith)
     go rec None r false q (suc i) l h n = rec i (le-of-suc-le-suc l) h r
 
@@ -56,7 +51,7 @@ pub record IsLast (p k c : ℕ) (es : List Entry) : Type 0 where
   pub latest : (j : ℕ) → place < j → j < length es → on-port-number p (entry-at es j) ≡ true → ⊥
 
 pub last-some : (p k c : ℕ) (es : List Entry) → last-from p k es ≡ Some c → IsLast p k c es
-last-some p k c [] h = no-place (sym h)
+last-some p k c [] h = not-none (sym h)
 last-some p k c (e ∷ es) h = go (last-some p (suc k) c es) (last-from p (suc k) es) refl (on-port-number p e) refl h
   where
     after : last-from p (suc k) es ≡ None → (j : ℕ) → 0 < j → j < suc (length es) → on-port-number p (entry-at (e ∷ es) j) ≡ true → ⊥
@@ -73,4 +68,4 @@ last-some p k c (e ∷ es) h = go (last-some p (suc k) c es) (last-from p (suc k
     go : (last-from p (suc k) es ≡ Some c → IsLast p (suc k) c es) → (o : Option ℕ) → last-from p (suc k) es ≡ o → (b : Bool) → on-port-number p e ≡ b → or-else o (cond b (Some k) None) ≡ Some c → IsLast p k c (e ∷ es)
     go rec (Some d) r b q g = more (rec (r ∙ g))
     go rec None r true q g = record { place = 0; at = sym (some-same g) ∙ sym (add-zero k); within = omega arith; there = q; latest = after r }
-    go rec None r false q g = no-place (sym g)
+    go rec None r false q g = not-none (sym g)

@@ -21,8 +21,8 @@ use Rattle.trace.specs.Decision.{on-port-number, or-else, last-from, last-on, 
 use Rattle.trace.specs.Invariants.{entry-at, Acceptable, Accepted, Latest, direct-at, Caused, is-below, Acyclic, row-of, Closed}
 use Rattle.trace.specs.Messages.{same}
 use Rattle.trace.specs.Rows.{held}
-use Rattle.trace.proofs.Decision.{last-before, send-before}
-use Rattle.trace.proofs.Tables.{same-eq, eq-same, or-else-none}
+use Rattle.trace.proofs.Decision.{last-before, send-before, both-same}
+use Rattle.trace.proofs.Options.{same-eq, eq-same, or-else-none, or-else-assoc}
 
 -- what holds of each event with those before it, where it holds of the old ones and of the new one
 module _ (P : ℕ → List Entry → Entry → Type 0) where
@@ -49,10 +49,6 @@ pub accepted-none : Accepted []
 accepted-none i h = absurd (not-suc-le-zero h)
 
 -- the last event on a port
-or-else-assoc : (x y z : Option ℕ) → or-else (or-else x y) z ≡ or-else x (or-else y z)
-or-else-assoc None y z = refl
-or-else-assoc (Some a) y z = refl
-
 last-from-push : (p k : ℕ) (t : List Entry) (x : Entry) → last-from p k (t ++ x ∷ []) ≡ or-else (cond (on-port-number p x) (Some (k + length t)) None) (last-from p k t)
 last-from-push p k [] x = rw (add-zero k) (sym (or-else-none _))
 last-from-push p k (e ∷ t) x =
@@ -136,9 +132,6 @@ row-new rows r c i e = ap (λ (w : CauseRow). held (w .words) i) (getD-push rows
 at-push : (rows : List CauseRow) (r : CauseRow) (o : Option ℕ) (i : ℕ) → ((c : ℕ) → o ≡ Some c → c < length rows) → at-or-before (row-of (rows ++ r ∷ [])) o i ≡ at-or-before (row-of rows) o i
 at-push rows r None i h = refl
 at-push rows r (Some c) i h = ap (λ (b : Bool). eqb i c || b) (row-old rows r c i (h c refl))
-
-both-same : {a b c d : Bool} → a ≡ b → c ≡ d → (a || c) ≡ (b || d)
-both-same p q = cc
 
 pub closed-none : (rows : List CauseRow) → Closed [] (row-of rows)
 closed-none rows j l = absurd (not-suc-le-zero l)

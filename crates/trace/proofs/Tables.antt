@@ -6,10 +6,9 @@ use mathlib.Core.List.{List, [], _∷_, _++_}
 use Prim.Native.Nat.{ℕ, suc, _+_, _<_}
 use native.Mathlib.Nat.{add-zero, zero-add}
 use native.Mathlib.Omega.{arith}
-use borrow.Author.Tests.{clash}
 use lib.ListN.{length, set, replicate}
 use lib.Dec.{eqb}
-use Rattle.std.proofs.shelf.Tests.{eqb-true, eq-eqb, ne-eqb, cases-eq, cases-bool}
+use Rattle.std.proofs.shelf.Tests.{eq-eqb, ne-eqb, cases-eq, cases-bool}
 use Rattle.std.proofs.shelf.Ways.{tells}
 use Rattle.std.proofs.shelf.Lists.{getD-set-same, getD-set-other, getD-replicate, length-set}
 use Rattle.std.specs.Options.{isSome}
@@ -23,23 +22,7 @@ use Rattle.trace.specs.Entries.{sends, receives, message-number}
 use Rattle.trace.specs.Adding.{first-from, sender-of, receiver-of, event-conditions}
 use Rattle.trace.specs.Decision.{or-else, send-for}
 use Rattle.trace.specs.Messages.{unused, record-at, same, Agrees, send-conditions, receipt-conditions, note-conditions, noted, sent-by}
-
-pub same-eq : (a b : Option ℕ) → same a b ≡ true → a ≡ b
-same-eq None None h = refl
-same-eq None (Some b) h = absurd (clash h)
-same-eq (Some a) None h = absurd (clash h)
-same-eq (Some a) (Some b) h = ap Some (eqb-true a b h)
-
-same-refl : (a : Option ℕ) → same a a ≡ true
-same-refl None = refl
-same-refl (Some a) = eq-eqb a a refl
-
-pub eq-same : (a b : Option ℕ) → a ≡ b → same a b ≡ true
-eq-same a b e = subst (λ (x : Option ℕ). same a x ≡ true) e (same-refl a)
-
-pub or-else-none : (a : Option ℕ) → or-else a None ≡ a
-or-else-none None = refl
-or-else-none (Some a) = refl
+use Rattle.trace.proofs.Options.{none-of, same-eq, eq-same, or-else-none}
 
 first-push : (test : Entry → Bool) (k : ℕ) (t : List Entry) (x : Entry)
     → first-from test k (t ++ x ∷ []) ≡ or-else (first-from test k t) (cond (test x) (Some (k + length t)) None)
@@ -64,15 +47,11 @@ first-new test t x y none =
     (ap Some (sym (zero-add (length t))) ∙ ap (λ (b : Bool). or-else None (cond b (Some (0 + length t)) None)) (sym y)
     ∙ ap (λ (o : Option ℕ). or-else o (cond (test x) (Some (0 + length t)) None)) (sym none) ∙ sym (first-push test 0 t x))
 
-none-from : (a : Option ℕ) → isSome a ≡ false → a ≡ None
-none-from None h = refl
-none-from (Some a) h = absurd (clash (sym h))
-
 unsent : (m : MessageRecord) → lowest 7 (send-conditions m) ≡ 0 → m .sender ≡ None
-unsent m h = none-from (m .sender) (elim (cases-bool (isSome (m .sender))) [ inl y ↦ grind (arith, tells) | inr f ↦ f ])
+unsent m h = none-of (m .sender) (elim (cases-bool (isSome (m .sender))) [ inl y ↦ grind (arith, tells) | inr f ↦ f ])
 
 unreceived : (m : MessageRecord) → lowest 7 (receipt-conditions m) ≡ 0 → m .receiver ≡ None
-unreceived m h = none-from (m .receiver) (elim (cases-bool (isSome (m .receiver))) [ inl y ↦ grind (arith, tells) | inr f ↦ f ])
+unreceived m h = none-of (m .receiver) (elim (cases-bool (isSome (m .receiver))) [ inl y ↦ grind (arith, tells) | inr f ↦ f ])
 
 AgreesAt : MessageRecord → List Entry → ℕ → Type 0
 AgreesAt m t n = (same (m .sender) (sender-of n t) ≡ true) × (same (m .receiver) (receiver-of n t) ≡ true)

@@ -16,6 +16,9 @@ pub struct Dump {
 }
 
 impl Dump {
+    // 512 entries of 4 bytes and one entry more: no byte of a dump after these matters.
+    pub const MOST_BYTES: u64 = 2052;
+
     // Tries the bytes' entries on a new trace, until the bytes are used up or an entry is refused.
     pub fn read(heap: Global, bytes: &[u8]) -> Result<Dump, AllocError>
         ensures { λ r. ⌜ made r (λ d. DumpRead (now (bytes .entry)) (events-of (d .trace)) (refused-number (d .refused))) ⌝ }
