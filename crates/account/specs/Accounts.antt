@@ -12,6 +12,7 @@ use Rattle.clock.specs.Ports.{port-number}
 use Rattle.trace.specs.declared.entries.Entry.{Entry}
 use Rattle.trace.specs.declared.entries.Entry.the-variants.{Local, Send, Receipt}
 use Rattle.trace.specs.Dumps.{DumpRead}
+use Rattle.trace.specs.Causality.{Causal}
 use Rattle.trace.specs.Decision.{happened}
 use Rattle.trace.specs.Rows.{members}
 
@@ -53,4 +54,6 @@ pub record AccountOf (bytes text : List ℕ) : Type 0 where
   pub events : List Entry
   pub refused : ℕ
   pub read : DumpRead bytes events refused
+  -- so the decision by which causes are listed is that of happened-before, and no cause has a higher number
+  pub causal : Causal events
   pub is : text ≡ first-line (length events) refused ++ event-lines events (length events)

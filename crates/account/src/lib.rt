@@ -1,6 +1,7 @@
 // The account of a dump as text: how many events it has, what refusal ended it, and for each event what happened before it.
 ghost use mathlib.Core.Path.{_≡_};
 ghost use mathlib.Core.List.{_++_};
+ghost use lib.Chars.{codes};
 ghost use lib.ListN.{length};
 ghost use Rattle.std.specs.Finite.{nth};
 ghost use Rattle.std.specs.Of.String.{string-bytes};
@@ -81,15 +82,18 @@ fn write_entry(text: &mut String, entry: Entry) -> Result<(), AllocError>
     let port = entry.port().number() as usize;
     match entry {
         Entry::Local { .. } => write_item(text, " local ", port)?,
-        Entry::Send { message, .. } => {
-            write_item(text, " send ", port)?;
-            write_item(text, " ", message as usize)?;
-        }
-        Entry::Receipt { message, .. } => {
-            write_item(text, " receipt ", port)?;
-            write_item(text, " ", message as usize)?;
-        }
+        Entry::Send { message, .. } => write_message(text, " send ", port, message)?,
+        Entry::Receipt { message, .. } => write_message(text, " receipt ", port, message)?,
     }
+    Ok(())
+}
+
+// A word, a port and a message number.
+fn write_message(text: &mut String, word: &str, port: usize, message: u16) -> Result<(), AllocError>
+    ensures { λ r. ⌜ made r (λ _. Wrote (string-bytes (now (text .entry))) (now (word .entry) ++ (decimal port ++ (codes " " ++ decimal message))) (string-bytes (now (text .exit)))) ⌝ }
+{
+    write_item(text, word, port)?;
+    write_item(text, " ", message as usize)?;
     Ok(())
 }
 

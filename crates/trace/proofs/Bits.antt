@@ -1,24 +1,22 @@
+-- Rows of bits: one event put in, two rows joined, and the count of a row's events.
 use mathlib.Core.Path.{_≡_, refl, sym, ap, _∙_}
 use mathlib.Core.Logic.{inl, inr}
-use mathlib.Core.Bool.{Bool, true, false, _||_}
+use mathlib.Core.Bool.{Bool, true, false, cond, _||_}
 use mathlib.Core.List.{List, [], _∷_}
 use Prim.Native.Nat.{ℕ, zero, suc, _+_, _-_, _*_, _/_, _%_, _^_, _<_, _≤_, max}
-use native.Mathlib.Nat.{add-zero, zero-div, div-eq-of-lt, div-self, pow-suc}
+use native.Mathlib.Nat.{add-zero, add-suc, zero-div, div-eq-of-lt, div-self, pow-suc}
 use native.Mathlib.Numerals.{add-one}
 use native.Mathlib.Omega.{arith}
-use lib.ListN.{getD, length, set, replicate}
-use lib.Dec.{eqb}
+use lib.Arith.{lt-one}
 use lib.Bits.{bitOr, or-step}
-use Rattle.std.proofs.shelf.Bits.{or-shr, shl-shr, pow-add, pow-below, pow-pos}
+use lib.Count.{ones, ones-step}
+use lib.Dec.{eqb}
+use lib.ListN.{getD, length, set, replicate}
+use Rattle.std.proofs.shelf.Bits.{or-shr, shl-shr, shr-shr, shr-below, pow-add, pow-below, pow-pos}
+use Rattle.std.proofs.shelf.Lists.{length-append, getD-set-same, getD-set-other, getD-past, getD-replicate}
 use Rattle.std.proofs.shelf.Tests.{eq-eqb, ne-eqb, cases-eq, cases-lt}
 use Rattle.std.proofs.shelf.Ways.{tells}
-use Rattle.std.proofs.shelf.Lists.{length-append, getD-set-same, getD-set-other, getD-past, getD-replicate}
 use Rattle.trace.specs.Rows.{bit-at, held, members}
-use lib.Count.{ones, ones-step}
-use mathlib.Core.Bool.{cond}
-use Rattle.std.proofs.shelf.Bits.{shr-shr, shr-below}
-use lib.Arith.{lt-one}
-use native.Mathlib.Nat.{add-suc}
 
 low-or : (a b : ℕ) → bitOr a b % 2 ≡ max (a % 2) (b % 2)
 low-or a b = omega (arith, or-step a b)

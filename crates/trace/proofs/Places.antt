@@ -5,6 +5,7 @@ use mathlib.Core.List.{List, [], _∷_}
 use Prim.Native.Nat.{ℕ, zero, suc, _+_, _<_}
 use native.Mathlib.Nat.{add-zero, not-suc-le-zero, le-of-suc-le-suc}
 use native.Mathlib.Omega.{arith}
+use borrow.Author.Tests.{clash}
 use lib.ListN.{length}
 use Rattle.std.specs.declared.option.Option.{Option}
 use Rattle.std.specs.declared.option.Option.the-variants.{Some, None}
@@ -30,7 +31,7 @@ first-found t k i (e ∷ es) l h n = go (λ j. first-found t (suc k) j es) (t e)
   where
     go : ((j : ℕ) → j < length es → t (entry-at es j) ≡ true → first-from t (suc k) es ≡ None → ⊥) → (b : Bool) → t e ≡ b → (i : ℕ) → i < suc (length es) → t (entry-at (e ∷ es) i) ≡ true → cond b (Some k) (first-from t (suc k) es) ≡ None → ⊥
     go rec true q i l h n = not-none n
-    go rec false q zero l h n = let z : true ≡ false = sym h ∙ q in (let y : _≡_ {A = ℕ} 0 1 = cc in omega arith)
+    go rec false q zero l h n = clash (sym q ∙ h)
     go rec false q (suc i) l h n = rec i (le-of-suc-le-suc l) h n
 
 pub last-none : (p k i : ℕ) (es : List Entry) → i < length es → on-port-number p (entry-at es i) ≡ true → last-from p k es ≡ None → ⊥
@@ -40,7 +41,7 @@ last-none p k i (e ∷ es) l h n = go (λ j. last-none p (suc k) j es) (last-fro
     go : ((j : ℕ) → j < length es → on-port-number p (entry-at es j) ≡ true → last-from p (suc k) es ≡ None → ⊥) → (o : Option ℕ) → last-from p (suc k) es ≡ o → (b : Bool) → on-port-number p e ≡ b → (i : ℕ) → i < suc (length es) → on-port-number p (entry-at (e ∷ es) i) ≡ true → or-else o (cond b (Some k) None) ≡ None → ⊥
     go rec (Some c) r b q i l h n = not-none n
     go rec None r true q i l h n = not-none n
-    go rec None r false q zero l h n = let z : true ≡ false = sym h ∙ q in (let y : _≡_ {A = ℕ} 0 1 = cc in omega arith)
+    go rec None r false q zero l h n = clash (sym q ∙ h)
     go rec None r false q (suc i) l h n = rec i (le-of-suc-le-suc l) h r
 
 pub record IsLast (p k c : ℕ) (es : List Entry) : Type 0 where

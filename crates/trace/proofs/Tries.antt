@@ -79,7 +79,7 @@ after-accepted t [] h = h
 after-accepted t (bytes ∷ tries) h = after-accepted (tried t bytes) tries (tried-accepted t bytes h)
 
 pub reached-accepted : (t : List Entry) → Reached t → Accepted t
-reached-accepted t r = subst Accepted (r .1) (after-accepted [] (r .0) accepted-none)
+reached-accepted t r = subst Accepted r (after-accepted [] (map form t) accepted-none)
 
 pub causal-runs : CausalRuns
 causal-runs tries = causal (after tries) (after-accepted [] tries accepted-none)
@@ -133,6 +133,6 @@ reached-from past (e ∷ u) h =
     ∙ reached-from (past ++ e ∷ []) u (subst Accepted (sym (append-assoc past (e ∷ []) u)) h)
     ∙ append-assoc past (e ∷ []) u
 
--- every trace is what the tries of its entries leave
+-- every trace is what the tries of its own entries leave
 pub reached : (t : List Entry) → Accepted t → Reached t
-reached t h = (map form t, reached-from [] t h)
+reached t h = reached-from [] t h

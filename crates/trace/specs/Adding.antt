@@ -1,7 +1,7 @@
 -- Adding entries to a trace. A trace is the list of the entries accepted so far: event i is the entry at place i. Assumes nothing.
 use mathlib.Core.Path.{_≡_}
 use mathlib.Core.Bool.{Bool, false, cond, not}
-use mathlib.Core.List.{List, [], _∷_, _++_}
+use mathlib.Core.List.{List, [], _∷_, _++_, map}
 use Prim.Native.Nat.{ℕ, suc}
 use lib.ListN.{length, take}
 use lib.Dec.{eqb, leb}
@@ -62,7 +62,8 @@ event-conditions t e =
     ∷ received-before t e
     ∷ []
 
--- for each refusal from 1 to 9, whether it applies to the bytes after the events of t
+-- For each refusal from 1 to 9, whether it applies to the bytes after the events of t: 1 nothing left, 2 unknown kind,
+-- 3 too few bytes, 4 port above 7, 5 message above 511, 6 trace full, 7 sent before, 8 not sent, 9 received before.
 abbrev pub conditions : List Entry → List ℕ → List Bool
 conditions t bytes = byte-conditions bytes ++ event-conditions t (entry-of bytes)
 
@@ -82,9 +83,9 @@ after-from t (bytes ∷ tries) = after-from (tried t bytes) tries
 abbrev pub after : List (List ℕ) → List Entry
 after tries = after-from [] tries
 
--- the trace is one that some list of tries leaves
+-- the trace is what the tries of its own entries leave of a new one
 abbrev pub Reached : List Entry → Type 0
-Reached t = (tries : List (List ℕ)) × (after tries ≡ t)
+Reached t = after (map form t) ≡ t
 
 -- the answer to an entry by itself
 abbrev pub EntryAdds : List Entry → List Entry → Entry → Result ℕ Refusal → Type 0

@@ -29,10 +29,14 @@ pub record DumpOf (bytes : List ℕ) (t : List Entry) (r : ℕ) : Type 0 where
   pub holds : bytes ≡ joined form t ++ rest
   pub ends : Ends t rest r
 
+-- 512 entries of 4 bytes and one entry more
+abbrev pub most-bytes : ℕ
+most-bytes = 2052
+
 -- what is told of a dump: its trace and its refusal
 pub record DumpRead (bytes : List ℕ) (t : List Entry) (r : ℕ) : Type 0 where
   pub is : DumpOf bytes t r
   -- no other trace and refusal would do
   pub only : (u : List Entry) (s : ℕ) → DumpOf bytes u s → (u ≡ t) × (s ≡ r)
-  -- after 512 entries of 4 bytes and one entry more, no further byte matters
-  pub enough : 2052 ≤ length bytes → (more : List ℕ) → DumpOf (bytes ++ more) t r
+  -- after so many bytes no further one matters
+  pub enough : most-bytes ≤ length bytes → (more : List ℕ) → DumpOf (bytes ++ more) t r

@@ -1,7 +1,7 @@
 ghost use mathlib.Core.Path.{_≡_};
 ghost use mathlib.Core.List.{[]};
 ghost use Rattle.std.specs.Vec.{made};
-ghost use Rattle.trace.specs.Dumps.{refused-number, DumpRead};
+ghost use Rattle.trace.specs.Dumps.{refused-number, most-bytes, DumpRead};
 ghost use Rattle.trace.specs.Of.{events-of};
 use crate::traces::Trace;
 use clock::Refusal;
@@ -21,7 +21,8 @@ impl Dump {
 
     // Tries the bytes' entries on a new trace, until the bytes are used up or an entry is refused.
     pub fn read(heap: Global, bytes: &[u8]) -> Result<Dump, AllocError>
-        ensures { λ r. ⌜ made r (λ d. DumpRead (now (bytes .entry)) (events-of (d .trace)) (refused-number (d .refused))) ⌝ }
+        ensures most { λ _. do ⌜ (← ⟦Dump::MOST_BYTES⟧ .entry) ≡ most-bytes ⌝ }
+        ensures read { λ r. ⌜ made r (λ d. DumpRead (now (bytes .entry)) (events-of (d .trace)) (refused-number (d .refused))) ⌝ }
     {
         let mut trace = Trace::new(heap)?;
         let refused = add_all(&mut trace, bytes);

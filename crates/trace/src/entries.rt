@@ -1,6 +1,7 @@
 ghost use mathlib.Core.Path.{_≡_};
 ghost use Rattle.trace.specs.Entries.{port-of};
 ghost use Rattle.trace.specs.Forms.{MessageAnswer, ReadAnswer, FormRead};
+use crate::MESSAGE_NUMBERS;
 use clock::Port;
 use clock::PortDebug;
 use clock::PortPartialEq;
@@ -57,7 +58,7 @@ fn read_message(port: u8, high: u8, low: u8) -> Result<(Port, u16), Refusal>
 {
     let port = Port::new(port)?;
     let message = u16::from_be_bytes([high, low]);
-    if message > 511 {
+    if message >= MESSAGE_NUMBERS {
         return Err(Refusal::MessageTooHigh);
     }
     Ok((port, message))

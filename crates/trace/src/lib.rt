@@ -8,6 +8,12 @@ mod orders;
 mod rows;
 mod traces;
 
+// How many events a trace holds at most.
+pub(crate) const MOST_EVENTS: usize = 512;
+
+// How many message numbers there are, from 0 up.
+pub(crate) const MESSAGE_NUMBERS: u16 = 512;
+
 pub use added::Added;
 pub use added::AddedDebug;
 pub use added::AddedPartialEq;
@@ -20,4 +26,5 @@ pub use entries::EntryDebug;
 pub use entries::EntryPartialEq;
 pub use orders::TraceOrder;
 pub use rows::CauseRow;
+pub use rows::CauseRowDebug;
 pub use traces::Trace;

@@ -11,6 +11,7 @@ ghost use Rattle.trace.specs.contracts.messages.MessageTable.{the-row as the-t
 ghost use Rattle.trace.specs.contracts.messages.MessageRecord.{the-row as the-record};
 ghost use Rattle.trace.specs.Entries.{message-number};
 ghost use Rattle.trace.specs.Messages.{unused, Noted, SendNoted, ReceiptNoted};
+use crate::MESSAGE_NUMBERS;
 use crate::entries::Entry;
 use clock::Refusal;
 use std::alloc::AllocError;
@@ -37,7 +38,7 @@ impl MessageTable {
         let records = vec![in heap; MessageRecord {
             sender: None,
             receiver: None
-        }; 512]?;
+        }; MESSAGE_NUMBERS as usize]?;
         Ok(MessageTable { records })
     }
 
@@ -51,7 +52,7 @@ impl MessageTable {
     }
 
     // Notes that the event sends message n.
-    fn send(&mut self, n: u16, event: u16) -> Result<(), Refusal>
+    fn note_send(&mut self, n: u16, event: u16) -> Result<(), Refusal>
         requires { ⌜ n < vec-len (now self .records) ⌝ }
         ensures { λ r. ⌜ SendNoted (vec-items (now (self .entry) .records)) (vec-items (now (self .exit) .records)) n event r ⌝ }
     {
@@ -64,7 +65,7 @@ impl MessageTable {
     }
 
     // Notes that the event receives message n, and answers the event that sent it.
-    fn receive(&mut self, n: u16, event: u16) -> Result<u16, Refusal>
+    fn note_receipt(&mut self, n: u16, event: u16) -> Result<u16, Refusal>
         requires { ⌜ n < vec-len (now self .records) ⌝ }
         ensures { λ r. ⌜ ReceiptNoted (vec-items (now (self .entry) .records)) (vec-items (now (self .exit) .records)) n event r ⌝ }
     {
@@ -87,11 +88,11 @@ impl MessageTable {
         match entry {
             Entry::Local { .. } => Ok(None),
             Entry::Send { message, .. } => {
-                self.send(message, event)?;
+                self.note_send(message, event)?;
                 Ok(None)
             }
             Entry::Receipt { message, .. } => {
-                let sender = self.receive(message, event)?;
+                let sender = self.note_receipt(message, event)?;
                 Ok(Some(sender))
             }
         }

@@ -4,6 +4,7 @@ ghost use Prim.Native.Nat.{ℕ, _<_};
 ghost use lib.Dec.{eqb};
 ghost use lib.ListN.{length};
 ghost use Rattle.trace.specs.Rows.{held, members};
+use crate::MOST_EVENTS;
 
 // A set of events, as a row of 512 bits: event k is in it where bit k is set.
 #[derive(Clone, Copy, Debug)]
@@ -19,11 +20,12 @@ impl CauseRow {
         CauseRow { words: [0; 8] }
     }
 
-    // Whether the event is in the row; a number that is no event's is in none.
+    // Whether the event is in the row. A number above 511 is in no row.
     pub fn has(&self, event: u16) -> bool
         ensures { λ r. ⌜ r ≡ held (now (self .entry) .words) event ⌝ }
     {
-        event < 512 && (self.words[(event / 64) as usize] >> (event % 64)) % 2 == 1
+        (event as usize) < MOST_EVENTS
+            && (self.words[(event / 64) as usize] >> (event % 64)) % 2 == 1
     }
 
     // How many events are in the row.

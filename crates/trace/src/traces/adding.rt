@@ -2,8 +2,8 @@ ghost use mathlib.Core.Path.{_≡_};
 ghost use mathlib.Core.Bool.{true, _||_};
 ghost use mathlib.Core.List.{[]};
 ghost use Prim.Native.Nat.{ℕ, _<_, _≤_};
+ghost use lib.ListN.{length};
 ghost use Rattle.std.specs.Vec.{made};
-ghost use Rattle.std.specs.Of.Vec.{vec-items, vec-len};
 ghost use Rattle.trace.specs.Entries.{message-number};
 ghost use Rattle.trace.specs.Adding.{tried, EntryAdds, Adds};
 ghost use Rattle.trace.specs.Decision.{at-or-before};
@@ -11,6 +11,7 @@ ghost use Rattle.trace.specs.Invariants.{is-below, row-of};
 ghost use Rattle.trace.specs.Of.{events-of};
 ghost use Rattle.trace.specs.Rows.{held};
 use super::Trace;
+use crate::MOST_EVENTS;
 use crate::added::Added;
 use crate::causes::DirectCauses;
 use crate::entries::Entry;
@@ -25,9 +26,9 @@ impl Trace {
     pub fn new(heap: Global) -> Result<Trace, AllocError>
         ensures { λ r. ⌜ made r (λ t. events-of t ≡ []) ⌝ }
     {
-        let entries = Vec::with_capacity(heap, 512)?;
-        let direct = Vec::with_capacity(heap, 512)?;
-        let rows = Vec::with_capacity(heap, 512)?;
+        let entries = Vec::with_capacity(heap, MOST_EVENTS)?;
+        let direct = Vec::with_capacity(heap, MOST_EVENTS)?;
+        let rows = Vec::with_capacity(heap, MOST_EVENTS)?;
         let messages = MessageTable::new(heap)?;
         Ok(Trace {
             entries,
@@ -54,7 +55,7 @@ impl Trace {
         ensures { λ r. ⌜ EntryAdds (events-of (now (self .entry))) (events-of (now (self .exit))) entry r ⌝ }
     {
         let count = self.entries.len();
-        if count >= 512 {
+        if count >= MOST_EVENTS {
             return Err(Refusal::TraceFull);
         }
         let event = count as u16;
@@ -71,11 +72,11 @@ impl Trace {
 }
 
 // The row of an event with these direct causes.
-fn row_after(rows: &Vec<CauseRow>, previous: Option<u16>, send: Option<u16>) -> CauseRow
-    requires previous { ⌜ is-below (vec-len (now rows)) previous ≡ true ⌝ }
-    requires send { ⌜ is-below (vec-len (now rows)) send ≡ true ⌝ }
-    requires few { ⌜ vec-len (now rows) ≤ 512 ⌝ }
-    ensures { λ r. ⌜ ((k : ℕ) → held (r .words) k ≡ (at-or-before (row-of (vec-items (now (rows .entry)))) previous k || at-or-before (row-of (vec-items (now (rows .entry)))) send k)) ⌝ }
+fn row_after(rows: &[CauseRow], previous: Option<u16>, send: Option<u16>) -> CauseRow
+    requires previous { ⌜ is-below (length (now rows)) previous ≡ true ⌝ }
+    requires send { ⌜ is-below (length (now rows)) send ≡ true ⌝ }
+    requires few { ⌜ length (now rows) ≤ 512 ⌝ }
+    ensures { λ r. ⌜ ((k : ℕ) → held (r .words) k ≡ (at-or-before (row-of (now (rows .entry))) previous k || at-or-before (row-of (now (rows .entry))) send k)) ⌝ }
 {
     let mut row = CauseRow::new();
     add_cause(&mut row, rows, previous);
@@ -84,10 +85,10 @@ fn row_after(rows: &Vec<CauseRow>, previous: Option<u16>, send: Option<u16>) -> 
 }
 
 // Puts a direct cause in a row, with all that happened before it.
-fn add_cause(row: &mut CauseRow, rows: &Vec<CauseRow>, cause: Option<u16>)
-    requires cause { ⌜ is-below (vec-len (now rows)) cause ≡ true ⌝ }
-    requires few { ⌜ vec-len (now rows) ≤ 512 ⌝ }
-    ensures { λ _. ⌜ ((k : ℕ) → held (now (row .exit) .words) k ≡ (held (now (row .entry) .words) k || at-or-before (row-of (vec-items (now (rows .entry)))) cause k)) ⌝ }
+fn add_cause(row: &mut CauseRow, rows: &[CauseRow], cause: Option<u16>)
+    requires cause { ⌜ is-below (length (now rows)) cause ≡ true ⌝ }
+    requires few { ⌜ length (now rows) ≤ 512 ⌝ }
+    ensures { λ _. ⌜ ((k : ℕ) → held (now (row .exit) .words) k ≡ (held (now (row .entry) .words) k || at-or-before (row-of (now (rows .entry))) cause k)) ⌝ }
 {
     if let Some(event) = cause {
         row.insert(event);

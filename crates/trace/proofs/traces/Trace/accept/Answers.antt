@@ -1,14 +1,17 @@
 use borrow.Author.Needs.{needs}
 use mathlib.Core.Path.{_≡_, sym, subst, ap, _∙_}
-use mathlib.Core.List.{[], _∷_, _++_}
+use mathlib.Core.Bool.{_||_}
+use mathlib.Core.List.{List, [], _∷_, _++_}
 use Prim.Native.Nat.{ℕ, _<_, _+_}
-use lib.ListN.{length, set, length-set}
+use lib.ListN.{length, getD, set, length-set}
 use Rattle.std.specs.Of.Vec.{vec-items, vec-len}
 use Rattle.std.specs.declared.option.Option.{Option}
-use Rattle.std.specs.declared.option.Option.the-variants.{Some}
+use Rattle.std.specs.declared.option.Option.the-variants.{Some, None}
 use Rattle.clock.specs.Ports.{port-number}
 use Rattle.trace.specs.Entries.{port-number-of}
-use Rattle.trace.specs.Decision.{last-for, send-for}
+use Rattle.trace.specs.declared.rows.CauseRow.{CauseRow}
+use Rattle.trace.specs.Decision.{last-for, send-for, at-or-before}
+use Rattle.trace.specs.Rows.{held}
 use Rattle.trace.specs.Messages.{Agrees, noted}
 use Rattle.trace.specs.Invariants.{Accepted, Latest, Caused, is-below, Acyclic, row-of, Closed}
 use Rattle.trace.proofs.Tables.{agrees-push, refusal-noted, sent-is, length-noted}
@@ -20,13 +23,15 @@ row-after-row-requires c κs =
     let self = c .args .self .now in
     let t = vec-items (self .entries) in
     let e = c .args .entry in
-    let even : vec-len (self .rows) ≡ length t = search needs in
+    let items = c .deref .result .now in
+    let rows-even : length (vec-items (self .rows)) ≡ length t = search needs in
+    let even : length items ≡ length t = ap length (c .deref .ensures .value) ∙ rows-even in
     let port : c .number-port .result ≡ port-number-of e = c .number-port .ensures .value ∙ ap port-number (c .port .ensures) in
     let previous = latest-is (self .latest) t e (c .number-port .result) port (c .number-port .ensures .bound) (self .lasts) in
     let send = c .in-Continue-send .ensures tt .1 ∙ sent-is (vec-items (self .messages .records)) t e (self .agrees) (c .pre) in
     record {
-      previous = ap (λ (o : Option ℕ). is-below (vec-len (self .rows)) o) previous ∙ ap (λ (n : ℕ). is-below n (last-for t e)) even ∙ last-below t e;
-      send = ap (λ (o : Option ℕ). is-below (vec-len (self .rows)) o) send ∙ ap (λ (n : ℕ). is-below n (send-for t e)) even ∙ send-below t e;
+      previous = ap (λ (o : Option ℕ). is-below (length items) o) previous ∙ ap (λ (n : ℕ). is-below n (last-for t e)) even ∙ last-below t e;
+      send = ap (λ (o : Option ℕ). is-below (length items) o) send ∙ ap (λ (n : ℕ). is-below n (send-for t e)) even ∙ send-below t e;
       few = search needs;
     }
 
@@ -53,6 +58,8 @@ ghost-self-2 c =
     let wide : vec-len (c .note .last .self .records) ≡ 512 = c .note .last .self .records .ok .0 ∙ ap length after ∙ length-noted rs e (length t) ∙ long in
     let previous = latest-is ls t e q port low (self .lasts) in
     let send = said .1 ∙ sent-is rs t e (self .agrees) (c .pre) in
+    let Row : List CauseRow → Type 0 = λ xs. (i : ℕ) → held (c .row-after-row .result .words) i ≡ (at-or-before (row-of xs) (getD ls q None) i || at-or-before (row-of xs) (c .in-Continue-send .send) i) in
+    let row : Row rows = subst Row (c .deref .ensures .value) (c .row-after-row .ensures) in
     let more = c .push-reserved-3 .ensures .items in (
       search needs,
       (
@@ -86,7 +93,7 @@ ghost-self-2 c =
                               (
                                 subst (λ xs. Closed xs (row-of (vec-items (c .push-reserved .last .self)))) (sym more)
                                     (subst (λ ys. Closed (t ++ e ∷ []) (row-of ys)) (sym (c .push-reserved .ensures .items))
-                                    (closed-push t e rows (c .row-after-row .result) _ _ rows-even previous send (self .closed) (c .row-after-row .ensures))),
+                                    (closed-push t e rows (c .row-after-row .result) _ _ rows-even previous send (self .closed) row)),
                                 tt,
                               ),
                             ),

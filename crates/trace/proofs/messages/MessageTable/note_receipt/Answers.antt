@@ -1,6 +1,6 @@
 use borrow.Author.Needs.{needs}
 use Rattle.std.proofs.shelf.Lists.{set-getD, getD-read}
-use Rattle.trace.proofs.messages.MessageTable.receive.Needs as need
+use Rattle.trace.proofs.messages.MessageTable.note_receipt.Needs as need
 
 pub returns-in-rest : need.returns-in-rest
 returns-in-rest c = search (needs, set-getD, getD-read)
