@@ -1,1 +1,4 @@
 pub mod Numbers
+pub mod Below
+pub mod Both
+pub mod Stamps

@@ -24,7 +24,11 @@ port-number P7 = 7
 abbrev pub port-at : ℕ → Port
 port-at n = getD (P0 ∷ P1 ∷ P2 ∷ P3 ∷ P4 ∷ P5 ∷ P6 ∷ P7 ∷ []) n P7
 
--- the answer to a number: its port below 8, refusal 4 from 8 on
+-- the answer to a port number: what its port gives below 8, refusal 4 from 8 on
+abbrev pub PortGives : {Value : Type 0} → (Port → Value) → ℕ → Result Value Refusal → Type 0
+PortGives give n (Ok v) = (n < 8) × (v ≡ give (port-at n))
+PortGives give n (Err f) = (8 ≤ n) × (refusal-number f ≡ 4)
+
+-- the answer to a port number: its port
 abbrev pub PortAnswer : ℕ → Result Port Refusal → Type 0
-PortAnswer n (Ok p) = (n < 8) × (p ≡ port-at n)
-PortAnswer n (Err f) = (8 ≤ n) × (refusal-number f ≡ 4)
+PortAnswer = PortGives (λ p. p)

@@ -1,0 +1,4 @@
+pub mod Entries
+pub mod Moves
+pub mod EntriesClocks
+pub mod Vectors
