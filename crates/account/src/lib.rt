@@ -1,4 +1,6 @@
-// The account of a dump as text: how many events it has, what refusal ended it, and for each event what happened before it.
+//! The account of a dump as text: how many events it has, what refusal ended it, and for each event what happened before it.
+#![tactic(auto)]
+
 ghost use Rattle.std.specs.Prelude.{◌≡◌, ◌++◌, length, IfOk, Some, string_bytes, codes, decimal, OnOk};
 ghost use Rattle.std.specs.List.{slice_get};
 ghost use Rattle.trace.specs.Dumps.{refused_number};

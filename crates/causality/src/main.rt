@@ -1,4 +1,6 @@
-// Reads a dump on standard input, and prints its account.
+//! Reads a dump on standard input, and prints its account.
+#![tactic(auto)]
+
 use account::account;
 use std::io::Read;
 use trace::Dump;

@@ -1,5 +1,7 @@
-// What every layer above shares: why a call is refused, the eight ports, lawful orders, and clocks with their
-// combination.
+//! What every layer above shares: why a call is refused, the eight ports, lawful orders, and clocks with their
+//! combination.
+#![tactic(auto)]
+
 mod clocks;
 mod combinations;
 mod orders;

@@ -1,4 +1,6 @@
-// A clock from outside the library, and examples of what the crates below do, run as tests.
+//! A clock from outside the library, and examples of what the crates below do, run as tests.
+#![tactic(auto)]
+
 mod scalar;
 
 pub use scalar::{Scalar, ScalarStamp};

@@ -1,4 +1,6 @@
-// The K-Lamport clock.
+//! The K-Lamport clock.
+#![tactic(auto)]
+
 mod klamport;
 
 pub use klamport::{KLamport, KLamportStamp};

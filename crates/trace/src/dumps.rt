@@ -19,7 +19,7 @@ impl Dump {
 
     // Tries the bytes' entries on a new trace, until the bytes are used up or an entry is refused.
     pub fn read(heap: Global, bytes: &[u8]) -> Result<Dump, AllocError>
-        ensures* most { do ⌜ (← (⟦Dump::MOST_BYTES⟧).entry) ≡ most_bytes ⌝ }
+        ensures most { Self.MOST_BYTES ≡ most_bytes }
         ensures read { IfOk result (λ d. DumpRead bytes.now (events_of d.trace) (refused_number d.refused)) }
     {
         let mut trace = Trace::new(heap)?;

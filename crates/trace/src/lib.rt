@@ -1,4 +1,6 @@
-// A trace of events on eight ports: adding entries, and what happened before what.
+//! A trace of events on eight ports: adding entries, and what happened before what.
+#![tactic(auto)]
+
 mod added;
 mod causes;
 mod dumps;

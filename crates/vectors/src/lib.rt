@@ -1,4 +1,6 @@
-// Clocks whose stamps are entries that the ports own: the full vector, and the R-entries vector.
+//! Clocks whose stamps are entries that the ports own: the full vector, and the R-entries vector.
+#![tactic(auto)]
+
 mod entries;
 mod full;
 mod rev;

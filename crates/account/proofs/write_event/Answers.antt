@@ -12,7 +12,7 @@ pub returns : goal.returns
 returns c =
     let t = events_of c.args.trace.now in
     let causes = causes_text t c.args.event c.unwrap-causes.result c.causes.result c.unwrap-causes.ensures c.causes.ensures in
-    then_wrote c.in-ok-write-number.ensures
-    (then_wrote c.in-ok-write-entry.ensures
-    (then_wrote (record { is = c.in-ok-push-str.ensures.bytes })
-    (then_wrote (wrote_as causes c.in-ok-write-members.ensures) (record { is = c.in-ok-push-str-2.ensures.bytes }))))
+    then_wrote c.in_ok-write_number.ensures
+    (then_wrote c.in_ok-write_entry.ensures
+    (then_wrote (record { is = c.in_ok-push_str.ensures.bytes })
+    (then_wrote (wrote_as causes c.in_ok-write_members.ensures) (record { is = c.in_ok-push_str-2.ensures.bytes }))))

@@ -15,8 +15,8 @@ placed t items i e l = subst (λ (es : List Entry). slice_get es i ≡ Some (ent
 pub loop-event-init : goal.loop-event-init
 loop-event-init c = wrote_as (sym (lines_none (events_of c.args.trace.now))) (wrote_none (string_bytes c.args.text.now))
 
-pub write-event-requires : goal.write-event-requires
-write-event-requires c =
+pub write_event-requires : goal.write_event-requires
+write_event-requires c =
     placed (events_of c.args.trace.now) c.events-entry-items.result.now c.loop-event.event c.events-entry-items.ensures.value c.loop-event-test.true
 
 pub loop-event-preserved : goal.loop-event-preserved
@@ -24,7 +24,7 @@ loop-event-preserved c =
     let t = events_of c.args.trace.now in
     let items = c.events-entry-items.result.now in
     let there = placed t items c.loop-event.event c.events-entry-items.ensures.value c.loop-event-test.true in
-    wrote_as (lines_more t c.loop-event.event (entry_at items c.loop-event.event) there) (then_wrote c.loop-event.invariant c.in-ok-write-event.ensures)
+    wrote_as (lines_more t c.loop-event.event (entry_at items c.loop-event.event) there) (then_wrote c.loop-event.invariant c.in_ok-write_event.ensures)
 
 pub returns : goal.returns
 returns c =

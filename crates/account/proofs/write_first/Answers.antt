@@ -8,6 +8,6 @@ pub returns : goal.returns
 returns c =
     let line = codes "\n" in
     wrote_as
-    (ap (λ (l : List ℕ). codes "events " ++ l) (append_assoc (decimal c.args.count) (codes " refused " ++ decimal c.refusal-number.result) line)
-    ∙ ap (λ (n : ℕ). first_line c.args.count n) c.refusal-number.ensures)
-    (then_wrote (then_wrote c.in-ok-write-item.ensures c.in-ok-write-item-2.ensures) (record { is = c.in-ok-push-str.ensures.bytes }))
+    (ap (λ (l : List ℕ). codes "events " ++ l) (append_assoc (decimal c.args.count) (codes " refused " ++ decimal c.refusal_number.result) line)
+    ∙ ap (λ (n : ℕ). first_line c.args.count n) c.refusal_number.ensures)
+    (then_wrote (then_wrote c.in_ok-write_item.ensures c.in_ok-write_item-2.ensures) (record { is = c.in_ok-push_str.ensures.bytes }))

@@ -6,4 +6,4 @@ use Rattle.account.proofs.write_message.Goals as goal
 pub returns : goal.returns
 returns c =
     wrote_as (append_assoc c.args.word.now (decimal c.args.port) (codes " " ++ decimal c.args.message))
-    (then_wrote c.in-ok-write-item.ensures c.in-ok-write-item-2.ensures)
+    (then_wrote c.in_ok-write_item.ensures c.in_ok-write_item-2.ensures)

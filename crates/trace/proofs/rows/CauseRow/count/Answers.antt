@@ -4,8 +4,8 @@ use Rattle.trace.specs.Rows.{held}
 use Rattle.trace.proofs.Bits.{count_of, count_none, count_word}
 use Rattle.trace.proofs.rows.CauseRow.count.Goals as goal
 
-pub overflow-add-ones : goal.overflow-add-ones
-overflow-add-ones c =
+pub overflow_add-ones : goal.overflow_add-ones
+overflow_add-ones c =
     let w = get_or c.args.self.now.words c.loop-i.i 0 in
     let fits : w < 2 ^ 64 = search rules in
     let few = ones-le 64 w fits in

@@ -1,4 +1,4 @@
-use Rattle.std.proofs.Common.{[], ◌∷◌, None, vec_items, sym, refl, subst, rules}
+use Rattle.std.proofs.Common.{[], ◌∷◌, None, vec_items, sym, subst, rules}
 use lib.ListN.{length-replicate}
 use Rattle.trace.specs.Messages.{Agrees}
 use Rattle.trace.specs.Invariants.{Accepted, Latest, Caused, Acyclic, row_of, Closed}
@@ -6,48 +6,32 @@ use Rattle.trace.proofs.Tables.{agrees_none}
 use Rattle.trace.proofs.Pushes.{accepted_none, latest_none, caused_none, acyclic_none, closed_none}
 use Rattle.trace.proofs.traces.Trace.new.Goals as goal
 
-pub invariant-of-result : goal.invariant-of-result
-invariant-of-result c =
-    let none = c.in-ok-entries.ensures.items in
-    let clear = c.in-ok-messages.ensures in
-    let ds = vec_items c.in-ok-direct.direct in
-    let rows = vec_items c.in-ok-rows.rows in (
-      search rules,
-      (
-        search rules,
-        (
-          search rules,
-          (
-            search rules,
-            (
-              search rules,
-              (
-                search rules,
-                (
-                  search (rules, length-replicate),
-                  (
-                    refl,
-                    (
-                      subst Accepted (sym none) accepted_none,
-                      (
-                        subst (λ t. Agrees (vec_items c.in-ok-messages.messages.records) t) (sym none) (subst (λ rs. Agrees rs []) (sym clear) agrees_none),
-                        (
-                          subst (λ t. Latest (None ∷ None ∷ None ∷ None ∷ None ∷ None ∷ None ∷ None ∷ []) t) (sym none) latest_none,
-                          (
-                            subst (λ t. Caused ds t) (sym none) (caused_none ds),
-                            (
-                              subst (λ t. Acyclic ds t) (sym none) (acyclic_none ds),
-                              (subst (λ t. Closed t (row_of rows)) (sym none) (closed_none rows), tt),
-                            ),
-                          ),
-                        ),
-                      ),
-                    ),
-                  ),
-                ),
-              ),
-            ),
-          ),
-        ),
-      ),
-    )
+pub invariant_of-result-clause-numbers : goal.invariant_of-result-clause-numbers
+invariant_of-result-clause-numbers c = search (rules, length-replicate)
+
+pub invariant_of-result-clause-accepted : goal.invariant_of-result-clause-accepted
+invariant_of-result-clause-accepted c = subst Accepted (sym c.in_ok-entries.ensures.items) accepted_none
+
+pub invariant_of-result-clause-agrees : goal.invariant_of-result-clause-agrees
+invariant_of-result-clause-agrees c =
+    subst (λ t. Agrees (vec_items c.in_ok-messages.messages.records) t) (sym c.in_ok-entries.ensures.items)
+    (subst (λ rs. Agrees rs []) (sym c.in_ok-messages.ensures) agrees_none)
+
+pub invariant_of-result-clause-lasts : goal.invariant_of-result-clause-lasts
+invariant_of-result-clause-lasts c =
+    subst (λ t. Latest (None ∷ None ∷ None ∷ None ∷ None ∷ None ∷ None ∷ None ∷ []) t) (sym c.in_ok-entries.ensures.items) latest_none
+
+pub invariant_of-result-clause-caused : goal.invariant_of-result-clause-caused
+invariant_of-result-clause-caused c =
+    let ds = vec_items c.in_ok-direct.direct in
+    subst (λ t. Caused ds t) (sym c.in_ok-entries.ensures.items) (caused_none ds)
+
+pub invariant_of-result-clause-acyclic : goal.invariant_of-result-clause-acyclic
+invariant_of-result-clause-acyclic c =
+    let ds = vec_items c.in_ok-direct.direct in
+    subst (λ t. Acyclic ds t) (sym c.in_ok-entries.ensures.items) (acyclic_none ds)
+
+pub invariant_of-result-clause-closed : goal.invariant_of-result-clause-closed
+invariant_of-result-clause-closed c =
+    let rows = vec_items c.in_ok-rows.rows in
+    subst (λ t. Closed t (row_of rows)) (sym c.in_ok-entries.ensures.items) (closed_none rows)

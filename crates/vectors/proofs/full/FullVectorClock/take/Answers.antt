@@ -8,6 +8,6 @@ pub returns : goal.returns
 returns c =
     let s = c.args.s.now in
     let m = c.args.m.now in
-    let call = c.in-ok-take.ensures.moved in
+    let call = c.in_ok-take.ensures.moved in
     let made = clock_taken full_vector full_sound s m c.number-taker.result s.entries m.entries c.take.new.e refl refl (omega arith) (omega arith) c.number-taker.ensures.value call.0 call.1 in
     record { moved = made.0; later = made.1; follows = made.2 }

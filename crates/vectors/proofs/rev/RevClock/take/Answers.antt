@@ -10,6 +10,6 @@ returns c =
     let m = c.args.m.now in
     let wide = c.widened-wide.ensures in
     let message = c.widened.ensures in
-    let call = c.in-ok-take.ensures.moved in
+    let call = c.in_ok-take.ensures.moved in
     let made = clock_taken rev rev_sound s m c.owned.result c.widened-wide.result c.widened.result c.narrowed-s.result wide message (ap length wide ∙ omega arith) (ap length message ∙ omega arith) c.owned.ensures.value call.0 (c.narrowed-s.ensures ∙ call.1) in
     record { moved = made.0; later = made.1; follows = made.2 }
