@@ -1,8 +1,8 @@
 ghost use Rattle.std.specs.Prelude.{◌≡◌, ◌<◌, replicate, IfOk, vec_len, slice_index_or};
 ghost use Rattle.std.specs.Borrow.{sem, follows};
 ghost use Rattle.std.specs.Vec.{with_item};
-ghost use Rattle.trace.specs.contracts.messages.MessageTable.{the_row as the-table};
-ghost use Rattle.trace.specs.contracts.messages.MessageRecord.{the_row as the-record};
+ghost use Rattle.trace.specs.contracts.messages.MessageTable.{the_row as the_table};
+ghost use Rattle.trace.specs.contracts.messages.MessageRecord.{the_row as the_record};
 ghost use Rattle.trace.specs.Entries.{message_number};
 ghost use Rattle.trace.specs.Messages.{unused, Noted, SendNoted, ReceiptNoted};
 
@@ -39,7 +39,7 @@ impl MessageTable {
     // Lends the record of message n.
     fn record_mut(&mut self, n: u16) -> &mut MessageRecord
         requires { n < vec_len self.old.records }
-        ensures* lent { sem 𝓛 (follows the-table the-record self.entry.ghost_name result.ghost_name (λ w. record { records = with_item self.old.records n w })) }
+        ensures* lent { sem 𝓛 (follows the_table the_record self.entry.ghost_name result.ghost_name (λ w. record { records = with_item self.old.records n w })) }
         ensures value { result.now ≡ slice_index_or self.old.records.items n result.now }
     {
         &mut self.records[n as usize]

@@ -1,5 +1,5 @@
 ghost use Rattle.examples.specs.Scalar.{scalar_before, scalar_answers, MadeScalar};
-ghost use Rattle.std.proofs.Common.{rules, arith};
+ghost use Rattle.std.proofs.Common.{rules};
 
 use crate::scalar::{Scalar, ScalarStamp};
 use clock::{Clock, Order, Port, Refusal};
@@ -21,7 +21,7 @@ impl Order for Scalar {
 
     ghost precedes = { λ _. scalar_before };
 
-    ghost lawful = { first_of (Prim.search rules, Prim.grind (arith, Self.row.coded.inj)) };
+    ghost lawful = { Prim.search rules };
 
     fn before(&self, a: &ScalarStamp, b: &ScalarStamp) -> bool {
         a.time < b.time
@@ -31,7 +31,7 @@ impl Order for Scalar {
 impl Clock for Scalar {
     ghost answers = { λ c. scalar_answers c.ceiling };
 
-    ghost meaning = { first_of (Prim.search rules, Prim.grind (arith, Self.row.coded.inj)) };
+    ghost meaning = { Prim.search rules };
 
     fn port(&self, s: &ScalarStamp) -> Port {
         s.port
