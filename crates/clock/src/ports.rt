@@ -16,11 +16,13 @@ pub enum Port {
     P7,
 }
 
-impl Port {
+impl TryFrom<u8> for Port {
+    type Error = Refusal;
+
+    ghost try_from_gives = { PortAnswer };
+
     // The port of a number, refused above 7.
-    pub fn new(n: u8) -> Result<Port, Refusal>
-        ensures { PortAnswer n result }
-    {
+    fn try_from(n: u8) -> Result<Port, Refusal> {
         match n {
             0 => Ok(Port::P0),
             1 => Ok(Port::P1),
@@ -33,7 +35,9 @@ impl Port {
             _ => Err(Refusal::PortTooHigh),
         }
     }
+}
 
+impl Port {
     // The port's number, 0 to 7.
     pub fn number(self) -> u8
         ensures value { result ≡ port_number self }

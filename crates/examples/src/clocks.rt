@@ -4,7 +4,7 @@ use clock::{Clock, Combination, Order, Port, Refusal};
 use lamport::{KLamport, KLamportStamp};
 use std::process::Abort;
 use std::test::Fail;
-use vectors::{FullVector, Rev, RevStamp, VectorStamp};
+use vectors::{FULL_VECTOR, REV, RevStamp, VectorStamp};
 
 // A stamp without room: a step of it, a take by it and a take of it are refused, and the stamps stay as they were.
 fn stays<C: Clock>(rt: &impl Abort, clock: &C, without_room: C::Item, started: C::Item) {
@@ -31,44 +31,44 @@ fn the_largest_entry_takes_the_room(rt: HostRuntime) -> Result<(), Fail> {
         port: Port::P0,
         entries: [0, 255, 0, 0],
     };
-    stays(&rt, &Rev, without_room, Rev.start(0)?);
+    stays(&rt, &REV, without_room, REV.start(0)?);
     Ok(())
 }
 
 #[test]
 fn the_strict_entry_is_that_of_the_later_port(rt: HostRuntime) -> Result<(), Fail> {
-    let mut local = Rev.start(1)?;
-    Rev.step(&mut local)?;
-    let mut send = Rev.start(2)?;
-    Rev.step(&mut send)?;
-    let mut receipt = Rev.start(5)?;
-    Rev.take(&mut receipt, &send)?;
+    let mut local = REV.start(1)?;
+    REV.step(&mut local)?;
+    let mut send = REV.start(2)?;
+    REV.step(&mut send)?;
+    let mut receipt = REV.start(5)?;
+    REV.take(&mut receipt, &send)?;
     let expected = RevStamp {
         port: Port::P5,
         entries: [0, 1, 1, 0],
     };
-    assert!(rt; Rev.same(&receipt, &expected));
-    assert!(rt; Rev.before(&send, &receipt));
-    unordered(&rt, &Rev, local, receipt);
+    assert!(rt; REV.same(&receipt, &expected));
+    assert!(rt; REV.before(&send, &receipt));
+    unordered(&rt, &REV, local, receipt);
     Ok(())
 }
 
 #[test]
 fn a_full_vector_tells_concurrent_events(rt: HostRuntime) -> Result<(), Fail> {
-    let mut send = FullVector.start(5)?;
-    FullVector.step(&mut send)?;
-    FullVector.step(&mut send)?;
-    let mut receipt = FullVector.start(2)?;
-    FullVector.take(&mut receipt, &send)?;
+    let mut send = FULL_VECTOR.start(5)?;
+    FULL_VECTOR.step(&mut send)?;
+    FULL_VECTOR.step(&mut send)?;
+    let mut receipt = FULL_VECTOR.start(2)?;
+    FULL_VECTOR.take(&mut receipt, &send)?;
     let expected = VectorStamp {
         port: Port::P2,
         entries: [0, 0, 1, 0, 0, 2, 0, 0],
     };
-    assert!(rt; FullVector.same(&receipt, &expected));
-    assert!(rt; FullVector.before(&send, &receipt));
-    let mut local = FullVector.start(1)?;
-    FullVector.step(&mut local)?;
-    unordered(&rt, &FullVector, local, receipt);
+    assert!(rt; FULL_VECTOR.same(&receipt, &expected));
+    assert!(rt; FULL_VECTOR.before(&send, &receipt));
+    let mut local = FULL_VECTOR.start(1)?;
+    FULL_VECTOR.step(&mut local)?;
+    unordered(&rt, &FULL_VECTOR, local, receipt);
     Ok(())
 }
 
@@ -123,9 +123,9 @@ fn a_relay_over_three_ports_reaches_the_last_entry(rt: HostRuntime) -> Result<()
 #[test]
 fn nothing_moves_where_an_inner_part_has_no_room(rt: HostRuntime) -> Result<(), Fail> {
     let clock = Combination {
-        left: FullVector,
+        left: FULL_VECTOR,
         right: Combination {
-            left: Rev,
+            left: REV,
             right: KLamport,
         },
     };
@@ -148,24 +148,21 @@ fn nothing_moves_where_an_inner_part_has_no_room(rt: HostRuntime) -> Result<(), 
 #[test]
 fn no_clock_starts_above_port_7(rt: HostRuntime) {
     let clock = Combination {
-        left: Rev,
+        left: REV,
         right: KLamport,
     };
     assert!(rt; clock.start(7).is_ok());
     assert_eq!(rt; clock.start(8).err(), Some(Refusal::PortTooHigh));
-    assert_eq!(rt; FullVector.start(255).err(), Some(Refusal::PortTooHigh));
+    assert_eq!(rt; FULL_VECTOR.start(255).err(), Some(Refusal::PortTooHigh));
 }
 
 #[test]
 fn a_clock_from_outside_combines(rt: HostRuntime) -> Result<(), Fail> {
     assert!(rt; Scalar::new(254).is_none());
-    let Some(scalar) = Scalar::new(255) else {
-        assert!(rt; false);
-        return Ok(());
-    };
+    let scalar = Scalar::new(255).expect(&rt, "a ceiling of 255");
     let clock = Combination {
         left: scalar,
-        right: Rev,
+        right: REV,
     };
     let mut stamp = clock.start(6)?;
     clock.step(&mut stamp)?;

@@ -7,7 +7,7 @@ ghost use Rattle.std.specs.Prelude.{◌≤◌};
 use clock::Port;
 
 // A stamp of the scalar clock.
-#[derive(Clone, Copy)]
+#[derive(Clone, Copy, PartialEq, Eq, Debug)]
 pub struct ScalarStamp {
     pub port: Port,
     pub time: u32,

@@ -5,7 +5,7 @@ ghost use Rattle.lamport.specs.Laws.{lamport_lawful, lamport_meaning};
 use clock::{Clock, Order, Port, Refusal};
 
 // A stamp of the K-Lamport clock with its entries L0, L1 and L2. One made by hand may have entries that rise.
-#[derive(Clone, Copy)]
+#[derive(Clone, Copy, PartialEq, Eq, Debug)]
 pub struct KLamportStamp {
     pub port: Port,
     pub entries: [u16; 3],
@@ -38,7 +38,7 @@ impl Order for KLamport {
         let [b0, b1, b2] = b.entries;
         if self.rises(a) || self.rises(b) || a0 >= b0 {
             false
-        } else if a.port.number() == b.port.number() {
+        } else if a.port == b.port {
             a1 <= b1 && a2 <= b2
         } else {
             a0 <= b1 && a1 <= b2
@@ -59,17 +59,17 @@ impl Clock for KLamport {
         if self.rises(s) {
             0
         } else {
-            (u16::MAX - s.entries[0]) as u32
+            u32::from(u16::MAX - s.entries[0])
         }
     }
 
     fn same(&self, a: &KLamportStamp, b: &KLamportStamp) -> bool {
-        a.port == b.port && a.entries == b.entries
+        a == b
     }
 
     fn start(&self, port: u8) -> Result<KLamportStamp, Refusal> {
         Ok(KLamportStamp {
-            port: Port::new(port)?,
+            port: Port::try_from(port)?,
             entries: [0; 3],
         })
     }

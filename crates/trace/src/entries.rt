@@ -22,7 +22,7 @@ impl Entry {
         match bytes {
             [] => Err(Refusal::NothingLeft),
             [1, port, ..] => {
-                let port = Port::new(*port)?;
+                let port = Port::try_from(*port)?;
                 Ok((Entry::Local { port }, 2))
             }
             [2, port, high, low, ..] => {
@@ -54,7 +54,7 @@ impl Entry {
 fn read_message(port: u8, high: u8, low: u8) -> Result<(Port, u16), Refusal>
     ensures { MessageAnswer port high low result }
 {
-    let port = Port::new(port)?;
+    let port = Port::try_from(port)?;
     let message = u16::from_be_bytes([high, low]);
     if message >= MESSAGE_NUMBERS {
         return Err(Refusal::MessageTooHigh);

@@ -1,9 +1,11 @@
 //! Clocks whose stamps are entries that the ports own: the full vector, and the R-entries vector.
 #![tactic(auto)]
 
+mod clocks;
+mod counters;
 mod entries;
-mod full;
-mod rev;
+mod stamps;
 
-pub use full::{FullVector, VectorStamp};
-pub use rev::{Rev, RevStamp};
+pub use clocks::{EntriesVector, FULL_VECTOR, FullVector, REV, Rev};
+pub use counters::Counter;
+pub use stamps::{EntriesStamp, RevStamp, VectorStamp};

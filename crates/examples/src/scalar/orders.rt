@@ -42,12 +42,12 @@ impl Clock for Scalar {
     }
 
     fn same(&self, a: &ScalarStamp, b: &ScalarStamp) -> bool {
-        a.port == b.port && a.time == b.time
+        a == b
     }
 
     fn start(&self, port: u8) -> Result<ScalarStamp, Refusal> {
         Ok(ScalarStamp {
-            port: Port::new(port)?,
+            port: Port::try_from(port)?,
             time: 0,
         })
     }

@@ -1,12 +1,10 @@
-use Rattle.std.proofs.Common.{sym}
-use Rattle.vectors.specs.EntryLaws.{none_first, none_next, none_fails}
+use Rattle.std.proofs.Common.{◌<◌, ◌≤◌, rules, tests}
+use Rattle.std.proofs.lemmas.Iterator.{YieldsList-from_slice, YieldsList-from_zip, cases_from_all}
+use Rattle.vectors.specs.EntryLaws.{none_tested}
 use Rattle.vectors.proofs.entries.none_exceeds.Goals as goal
 
-pub loop-i-init : goal.loop-i-init
-loop-i-init c = none_first _ _
-
-pub loop-i-preserved : goal.loop-i-preserved
-loop-i-preserved c = none_next _ _ _ c.loop-i.invariant c.if-a-i.false
-
-pub returns-then-a-i : goal.returns-then-a-i
-returns-then-a-i c = sym (none_fails _ _ _ _ c.loop-i-test.true c.if-a-i.true)
+pub returns : goal.returns
+returns g c =
+    let counter = g.C.Counter in
+    let cases = cases_from_all c.all.new.self _ c.all.result (λ p. counter.value p.0 ≤ counter.value p.1) (λ p. counter.value p.1 < counter.value p.0) c.all.ensures.ran (YieldsList-from_zip (YieldsList-from_slice c.args.a.now cc) (YieldsList-from_slice c.args.b.now cc)) (λ x q k. search (rules, tests)) (λ x q k. search (rules, tests)) in
+    none_tested counter.value _ _ _ (counter.of 0) c.told-a c.told-b c.all.result cases

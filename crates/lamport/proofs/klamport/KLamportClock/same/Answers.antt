@@ -1,8 +1,13 @@
-use Rattle.std.proofs.Common.{◌≡◌, rules}
+use Rattle.std.proofs.Common.{ap₂, refl}
+use Rattle.std.proofs.lemmas.Bool.Decides.{Decides-eqb}
+use Rattle.std.proofs.lemmas.Slice.Eq.{slice_eq-Decides}
+use Rattle.clock.specs.declared.ports.Port.{Port}
+use Rattle.clock.proofs.Numbers.{port_decides}
 use Rattle.clock.proofs.Stamps.{same_decides}
 use Rattle.lamport.proofs.klamport.KLamportClock.same.Goals as goal
 
-pub returns-then-eq : goal.returns-then-eq
-returns-then-eq c =
-    let on_one_port : c.args.a.now.port ≡ c.args.b.now.port = search rules in
-    same_decides (λ s. s.entries) c.args.a.now c.args.b.now _ (λ e i. record { port = on_one_port i; entries = e i }) c.eq-then-eq.ensures
+pub returns : goal.returns
+returns c =
+    let a = c.args.a.now in
+    let b = c.args.b.now in
+    same_decides (λ s. s.port) (λ s. s.entries) a b c.eq.result c.eq.ensures (port_decides a.port b.port) (slice_eq-Decides Decides-eqb a.entries b.entries _ refl) (ap₂ (λ (p : Port) e. record { port = p; entries = e }))

@@ -1,0 +1,28 @@
+use Rattle.std.proofs.Common.{map, ap, ◌∙◌, rules, arith}
+use Rattle.vectors.specs.Entries.{largest, one_more}
+use Rattle.vectors.specs.EntryLaws.{greater_within}
+use Rattle.vectors.specs.EntriesClocks.{owned, clock_before}
+use Rattle.vectors.specs.EntriesClocksLemmas.{made_of, clock_meaning}
+use Rattle.vectors.proofs.clocks.EntriesVectorClock.take.Goals as goal
+
+pub advance-requires : goal.advance-requires
+advance-requires g c =
+    let n = g.row.R in
+    let e = map g.C.Counter.value c.args.s.now.entries in
+    let f = map g.C.Counter.value c.args.m.now.entries in
+    (search rules, omega (arith, ap (largest n) c.raise.ensures, greater_within n e f))
+
+pub returns : goal.returns
+returns g c =
+    let counter = g.C.Counter in
+    let n = g.row.R in
+    let s = c.args.s.now in
+    let m = c.args.m.now in
+    let made = c.advance.ensures.entries ∙ ap (one_more n (owned n s.port)) c.raise.ensures in
+    let next = made_of counter.value counter.of counter.CEILING n g.met.C.Counter.of_value c.advance.new.s s.port _ c.advance.ensures.port made in
+    let meaning = clock_meaning counter.value counter.of counter.CEILING n c.args.self.now.count.some g.met.C.Counter.value_of g.met.C.Counter.floor in
+    record {
+      moved = (omega arith, omega arith, next);
+      later = ap (clock_before counter.value counter.of counter.CEILING n s) next ∙ meaning.take_before s m (omega arith) (omega arith);
+      follows = ap (clock_before counter.value counter.of counter.CEILING n m) next ∙ meaning.take_after s m (omega arith) (omega arith);
+    }

@@ -1,0 +1,114 @@
+ghost use Rattle.std.specs.Prelude.{◌≡◌, ◌+◌, ◌<◌, map};
+ghost use Rattle.vectors.specs.Entries.{largest, one_more};
+ghost use Rattle.vectors.specs.EntriesClocks.{owned, clock_before, clock_answers};
+ghost use Rattle.vectors.specs.EntriesClocksLemmas.{clock_lawful, clock_meaning};
+
+use crate::counters::Counter;
+use crate::entries::{largest, none_exceeds, raise};
+use crate::stamps::EntriesStamp;
+use clock::{Clock, Order, Port, Refusal};
+use std::marker::PhantomData;
+
+// The clock of R entries that the ports share: port p owns entry p mod R.
+#[derive(Clone, Copy)]
+pub struct EntriesVector<C, const R: usize> {
+    counter: PhantomData<C>,
+    count: Count<R>,
+}
+
+// A number of entries, at least 1.
+#[derive(Clone, Copy)]
+struct Count<const R: usize> {
+    ghost some: { 0 < R },
+}
+
+// The full vector clock: 8 entries of 16 bits, one for each port.
+pub type FullVector = EntriesVector<u16, 8>;
+
+pub const FULL_VECTOR: FullVector = EntriesVector {
+    counter: PhantomData,
+    count: Count {},
+};
+
+// The R-entries vector clock: 4 entries of 8 bits.
+pub type Rev = EntriesVector<u8, 4>;
+
+pub const REV: Rev = EntriesVector {
+    counter: PhantomData,
+    count: Count {},
+};
+
+impl<C: Counter, const R: usize> EntriesVector<C, R> {
+    // The entry that the port owns.
+    fn owned(&self, port: Port) -> usize
+        ensures value { result ≡ owned R port }
+        ensures bound { result < R }
+    {
+        usize::from(port.number()) % R
+    }
+
+    // Raises the own entry of the stamp's port by 1.
+    fn advance(&self, s: &mut EntriesStamp<C, R>)
+        requires { largest R (map C.value s.old.entries) < C.CEILING }
+        ensures port { s.new.port ≡ s.old.port }
+        ensures entries { map C.value s.new.entries ≡ one_more R (owned R s.old.port) (map C.value s.old.entries) }
+    {
+        let own = self.owned(s.port);
+        s.entries[own] = s.entries[own].next();
+    }
+}
+
+impl<C: Counter, const R: usize> Order for EntriesVector<C, R> {
+    type Item = EntriesStamp<C, R>;
+
+    ghost precedes = { λ _. clock_before C.value C.of C.CEILING R };
+
+    ghost lawful = { λ c. clock_lawful C.value C.of C.CEILING R c.count.some };
+
+    fn before(&self, a: &EntriesStamp<C, R>, b: &EntriesStamp<C, R>) -> bool {
+        let own = self.owned(b.port);
+        none_exceeds(&a.entries, &b.entries) && a.entries[own].get() < b.entries[own].get()
+    }
+}
+
+impl<C: Counter, const R: usize> Clock for EntriesVector<C, R> {
+    ghost answers = { λ _. clock_answers C.value C.of C.CEILING R };
+
+    ghost meaning = { λ c. clock_meaning C.value C.of C.CEILING R c.count.some C.value_of C.floor };
+
+    fn port(&self, s: &EntriesStamp<C, R>) -> Port {
+        s.port
+    }
+
+    fn room(&self, s: &EntriesStamp<C, R>) -> u32 {
+        u32::from(C::CEILING.saturating_sub(largest(&s.entries)))
+    }
+
+    fn same(&self, a: &EntriesStamp<C, R>, b: &EntriesStamp<C, R>) -> bool {
+        a == b
+    }
+
+    fn start(&self, port: u8) -> Result<EntriesStamp<C, R>, Refusal> {
+        Ok(EntriesStamp {
+            port: Port::try_from(port)?,
+            entries: [C::zero(); R],
+        })
+    }
+
+    fn step(&self, s: &mut EntriesStamp<C, R>) -> Result<(), Refusal> {
+        if self.room(s) == 0 {
+            return Err(Refusal::NoRoom);
+        }
+        self.advance(s);
+        Ok(())
+    }
+
+    fn take(&self, s: &mut EntriesStamp<C, R>, m: &EntriesStamp<C, R>) -> Result<(), Refusal> {
+        if self.room(s) == 0 || self.room(m) == 0 {
+            return Err(Refusal::NoRoom);
+        }
+        raise(&mut s.entries, &m.entries);
+        self.advance(s);
+        Ok(())
+    }
+}

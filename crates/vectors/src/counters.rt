@@ -1,0 +1,93 @@
+ghost use Rattle.std.specs.Prelude.{◌≡◌, ℕ, ◌+◌, ◌≤◌, min, Decides, refl};
+ghost use Rattle.std.proofs.Common.{rules};
+
+// What an entry of a stamp is: a number of a fixed width, from 0 to a ceiling of at least 255.
+pub trait Counter: Copy + Eq {
+    ghost CEILING: { ℕ };
+
+    ghost value: { Self → ℕ };
+
+    ghost of: { ℕ → Self };
+
+    const CEILING: u16;
+
+    // The counter that holds 0.
+    fn zero() -> Self
+        ensures { result ≡ of 0 };
+
+    // The number that it holds.
+    fn get(self) -> u16
+        ensures { result ≡ value self };
+
+    // The counter that holds 1 more, or the ceiling where there is none.
+    fn next(self) -> Self
+        ensures { result ≡ of (min (value self + 1) CEILING) };
+
+    ghost floor: { 255 ≤ CEILING };
+
+    ghost value_of: { (n : ℕ) → value (of n) ≡ n };
+
+    ghost of_value: { (x : Self) → of (value x) ≡ x };
+
+    ghost identical: { (x y : Self) → Decides (Self.PartialEq.eq x y) (x ≡ y) };
+}
+
+impl Counter for u8 {
+    ghost CEILING = { 255 };
+
+    ghost value = { λ n. n };
+
+    ghost of = { λ n. n };
+
+    const CEILING: u16 = 255;
+
+    fn zero() -> u8 {
+        0
+    }
+
+    fn get(self) -> u16 {
+        u16::from(self)
+    }
+
+    fn next(self) -> u8 {
+        self.saturating_add(1)
+    }
+
+    ghost floor = { Prim.search rules };
+
+    ghost value_of = { λ n. refl };
+
+    ghost of_value = { λ x. refl };
+
+    ghost identical = { Prim.search rules };
+}
+
+impl Counter for u16 {
+    ghost CEILING = { 65535 };
+
+    ghost value = { λ n. n };
+
+    ghost of = { λ n. n };
+
+    const CEILING: u16 = u16::MAX;
+
+    fn zero() -> u16 {
+        0
+    }
+
+    fn get(self) -> u16 {
+        self
+    }
+
+    fn next(self) -> u16 {
+        self.saturating_add(1)
+    }
+
+    ghost floor = { Prim.search rules };
+
+    ghost value_of = { λ n. refl };
+
+    ghost of_value = { λ x. refl };
+
+    ghost identical = { Prim.search rules };
+}
