@@ -1,6 +1,6 @@
 -- The account of a dump, as the bytes of its text. One space stands between items, and byte 10 ends a line. Assumes nothing.
-use Rattle.std.specs.Prelude.{◌≡◌, ℕ, zero, suc, List, [], ◌∷◌, ◌++◌, length, Some, None, codes, decimal, Option}
-use Rattle.std.specs.List.{slice_get}
+use Rattle.std.specs.Prelude.{◌≡◌, ℕ, zero, suc, List, [], ◌++◌, length, Some, None, codes, decimal, Option}
+use Rattle.std.specs.List.{slice_get, flat_map}
 use Rattle.clock.specs.Ports.{port_number}
 use Rattle.trace.specs.declared.entries.Entry.{Entry}
 use Rattle.trace.specs.declared.entries.Entry.TheVariants.{Local, Send, Receipt}
@@ -9,14 +9,9 @@ use Rattle.trace.specs.Causality.{Causal}
 use Rattle.trace.specs.Decision.{happened}
 use Rattle.trace.specs.Rows.{members}
 
--- a piece was written after a text
-pub record Wrote (old piece new : List ℕ) : Type 0 where
-  pub is : new ≡ old ++ piece
-
 -- each number after a space
 abbrev pub numbers_text : List ℕ → List ℕ
-numbers_text [] = []
-numbers_text (n ∷ ns) = codes " " ++ (decimal n ++ numbers_text ns)
+numbers_text = flat_map (λ n. codes " " ++ decimal n)
 
 -- the kind, the port and, but for a local event, the message
 abbrev pub entry_text : Entry → List ℕ
