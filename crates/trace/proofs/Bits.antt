@@ -1,11 +1,16 @@
 -- Rows of bits: one event put in, two rows joined, and the count of a row's events.
-use Rattle.std.proofs.Common.{◌≡◌, ℕ, zero, suc, ◌+◌, ◌-◌, ◌*◌, ◌/◌, ◌%◌, ◌^◌, ◌<◌, ◌≤◌, max, Bool, true, false, cond, ◌||◌, eqb, List, [], ◌∷◌, length, get_or, set, replicate, sym, refl, ap, ◌∙◌, inl, inr, add-zero, add-suc, pow-suc, add-one, arith}
+use Rattle.std.proofs.Common.{◌≡◌, ℕ, zero, suc, ◌+◌, ◌-◌, ◌*◌, ◌/◌, ◌%◌, ◌^◌, ◌<◌, ◌≤◌, max, Bool, true, false, cond, ◌||◌, eqb, List, [], ◌∷◌, length, get_or, take, set, replicate, sym, refl, ap, ◌∙◌, subst, inl, inr, add-zero, add-suc, pow-suc, add-one, arith}
 use native.Mathlib.Nat.{zero-div, div-eq_of_lt, div_self}
 use lib.Arith.{lt-one}
 use lib.Bits.{bit_or, or_step}
 use lib.Count.{ones, ones_step}
+use denote.Param.Members.{Mut}
+use Rattle.std.specs.Array.{IsFromFnResultFrom, IsFromFnResult}
+use Rattle.std.specs.Fn.{Called}
+use Rattle.std.specs.List.{sum_by}
+use Rattle.std.proofs.lemmas.List.Sums.{sum_by_more}
 use Rattle.std.proofs.lemmas.Nat.{or_shr, shl-shr, shr-shr, shr_below, pow-add, pow_below, pow_pos}
-use Rattle.std.proofs.lemmas.List.{length-append, get_or-set_same, get_or-set_other, get_or_past, get_or-replicate}
+use Rattle.std.proofs.lemmas.List.{length-append, get_or-set_same, get_or-set_other, get_or_past, get_or-replicate, take_all}
 use Rattle.std.proofs.lemmas.Bool.{eq-eqb, ne_eqb, cases_eq, cases_lt}
 use Rattle.std.proofs.lemmas.Bool.Decides.{nat_tests}
 use Rattle.trace.specs.Rows.{bit_at, held, members}
@@ -160,3 +165,47 @@ count_word ws i h =
 pub held_past : (ws : List ℕ) (k : ℕ) → length ws ≡ 8 → 512 ≤ k → held ws k ≡ false
 unfolding held
 held_past ws k n h = ap (λ (w : ℕ). bit_at w (k % 64)) (get_or_past ws (k / 64) 0 (omega arith)) ∙ bit_zero (k % 64)
+
+-- the numbers of all words
+counted_to : (ws : List ℕ) (fits : (k : ℕ) → get_or ws k 0 < 2 ^ 64) (i : ℕ) → i ≤ length ws → sum_by ones (take i ws) ≡ count_of (held ws) (64 * i)
+counted_to ws fits zero l = sym (count_none (held ws))
+counted_to ws fits (suc i) l =
+    let r = counted_to ws fits i (omega arith) in
+    let more = sum_by_more ones ws i 0 (omega arith) in
+    let word = count_word ws i (fits i) in
+    rw (← add-one i) (more ∙ ap (λ (n : ℕ). n + ones (get_or ws i 0)) r ∙ sym word)
+
+pub count_words : (ws : List ℕ) → length ws ≡ 8 → ((k : ℕ) → get_or ws k 0 < 2 ^ 64) → sum_by ones ws ≡ length (members (held ws) 512)
+unfolding count_of
+count_words ws n fits =
+    ap (sum_by ones) (sym (take_all 8 ws (omega arith))) ∙ counted_to ws fits 8 (omega arith)
+
+-- at most all of them pass
+members_few : (f : ℕ → Bool) (n : ℕ) → length (members f n) ≤ n
+unfolding members
+members_few f zero = omega arith
+members_few f (suc n) =
+    let r = members_few f n in
+    let e = length-append (members f n) (cond (f n) (n ∷ []) []) in
+    let o : length (cond (f n) (n ∷ []) []) ≤ 1 = elim (f n) as (λ b. length (cond b (n ∷ []) []) ≤ 1) [ true ↦ omega arith | false ↦ omega arith ] in
+    omega arith
+
+pub count_words_few : (ws : List ℕ) → length ws ≡ 8 → ((k : ℕ) → get_or ws k 0 < 2 ^ 64) → sum_by ones ws < 2 ^ 32
+count_words_few ws n fits =
+    let e = count_words ws n fits in
+    let f = members_few (held ws) 512 in
+    omega arith
+
+-- the elements that `array::from_fn` makes by a closure that changes nothing
+module _ {F : Type 0} {g : Mut F (ℕ × Unit {0}) ℕ} {f : F} (h : ℕ → ℕ) (ys : List ℕ) (top : ℕ) (calls : (i y : ℕ) (q : F) → i < top → Called g f (i, tt) y q → (q ≡ f) × (y ≡ h i)) where
+  each_made : (n i : ℕ) → i + n ≤ top → IsFromFnResultFrom g f ys i n → (k : ℕ) → i ≤ k → k < i + n → get_or ys k 0 ≡ h k
+  each_made zero i b r k l m = absurd (omega arith)
+  each_made (suc n) i b r k l m =
+      let here = calls i r.1 r.0 (omega arith) r.3 in
+      elim (cases_eq k i) [
+        | inl e ↦ rw e (r.2.1 0 ∙ here.1)
+        | inr ne ↦ each_made n (i + 1) (omega arith) (subst (λ (q : F). IsFromFnResultFrom g q ys (i + 1) n) here.0 r.4) k (omega arith) (omega arith)
+      ]
+
+  pub made : IsFromFnResult g f ys top → (k : ℕ) → k < top → get_or ys k 0 ≡ h k
+  made r k l = each_made top 0 (omega arith) r.each k (omega arith) (omega arith)

@@ -1,7 +1,7 @@
 ghost use Rattle.std.specs.Prelude.{◌≡◌, ℕ, ◌<◌, false, ◌||◌, length, ◌==◌};
 ghost use Rattle.trace.specs.Rows.{held, members};
 
-use crate::MOST_EVENTS;
+use std::array;
 
 // A set of events, as a row of 512 bits: event k is in it where bit k is set.
 #[derive(Clone, Copy, Debug)]
@@ -21,19 +21,16 @@ impl CauseRow {
     pub fn has(&self, event: u16) -> bool
         ensures { result ≡ held self.now.words event }
     {
-        (event as usize) < MOST_EVENTS
-            && (self.words[(event / 64) as usize] >> (event % 64)) % 2 == 1
+        self.words
+            .get(usize::from(event / 64))
+            .is_some_and(|word| (word >> (event % 64)) % 2 == 1)
     }
 
     // How many events are in the row.
     pub fn count(&self) -> u32
         ensures { result ≡ length (members (held self.now.words) 512) }
     {
-        let mut ones = 0;
-        for i in 0..8usize {
-            ones += self.words[i].count_ones();
-        }
-        ones
+        count_held(&self.words)
     }
 
     // Puts one event in.
@@ -41,15 +38,22 @@ impl CauseRow {
         requires { event < 512 }
         ensures { (k : ℕ) → held self.new.words k ≡ (held self.old.words k || k == event) }
     {
-        self.words[(event / 64) as usize] |= 1u64 << (event % 64);
+        self.words[usize::from(event / 64)] |= 1u64 << (event % 64);
     }
 
     // Puts in all the events of another row.
     pub(crate) fn join(&mut self, other: &CauseRow)
         ensures { (k : ℕ) → held self.new.words k ≡ (held self.old.words k || held other.now.words k) }
     {
-        for i in 0..8usize {
-            self.words[i] |= other.words[i];
-        }
+        self.words = array::from_fn(|i| self.words[i] | other.words[i]);
     }
+}
+
+// How many events are in the row of these words. It is given the slice, since of the elements of a slice that is passed a
+// proof knows that each fits in 64 bits, and of those of a field that is borrowed it does not.
+fn count_held(words: &[u64]) -> u32
+    requires { length words.now ≡ 8 }
+    ensures { result ≡ length (members (held words.now) 512) }
+{
+    words.iter().map(|word| word.count_ones()).sum()
 }

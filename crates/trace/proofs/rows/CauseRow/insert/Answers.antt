@@ -10,4 +10,4 @@ returns c x =
     let ws = c.args.self.now.words in
     let a = c.args.event in
     let l : a / 64 < length ws = search rules in
-    ap (λ (n : ℕ). held (set ws (a / 64) (bit_or (get_or ws (a / 64) 0) n)) x) (one_shl (a % 64) 64 (omega arith)) ∙ held_insert ws a x l
+    rw c.from.ensures (ap (λ (n : ℕ). held (set ws (a / 64) (bit_or (get_or ws (a / 64) 0) n)) x) (one_shl (a % 64) 64 (omega arith)) ∙ held_insert ws a x l)
