@@ -1,21 +1,16 @@
 -- Reading a dump: its trace and its refusal are the only ones, and after 2052 bytes no further byte matters.
-use Rattle.std.proofs.Common.{◌≡◌, ℕ, suc, ◌+◌, ◌*◌, ◌<◌, ◌≤◌, false, eqb, ltb, List, [], ◌∷◌, ◌++◌, length, drop, sym, refl, ap, ◌∙◌, subst, inl, inr, not-suc-le-zero, arith}
+use Rattle.std.proofs.Common.{◌≡◌, ℕ, suc, ◌+◌, ◌*◌, ◌≤◌, false, eqb, ltb, List, [], ◌∷◌, ◌++◌, length, sym, refl, ap, ◌∙◌, subst, inl, inr, not-suc-le-zero, arith}
 use Rattle.std.proofs.lemmas.Bool.{cases_lt}
 use Rattle.std.proofs.lemmas.Bool.Decides.{nat_tests}
-use Rattle.std.proofs.lemmas.List.{append-nil, append_assoc, append_cancel_left, length-append, length-drop, length-take-le, take-append-drop, drop-drop, drop_all}
+use Rattle.std.proofs.lemmas.List.{append-nil, append_assoc, append_cancel_left, length-append, length-take-le}
 use Rattle.std.specs.List.{flat_map}
 use Rattle.trace.specs.declared.entries.Entry.{Entry}
 use Rattle.trace.specs.declared.entries.Entry.TheVariants.{Local, Send, Receipt}
-use Rattle.trace.specs.declared.added.Added.{Added}
-use Rattle.trace.specs.Forms.{form, kind_byte, size_of, entry_of}
-use Rattle.trace.specs.Adding.{refusal_of, Accepts}
+use Rattle.trace.specs.Forms.{form, size_of, entry_of}
+use Rattle.trace.specs.Adding.{refusal_of}
 use Rattle.trace.specs.Dumps.{Ends, DumpOf, DumpRead}
 use Rattle.trace.specs.Invariants.{Accepted}
-use Rattle.trace.proofs.Tries.{form_entry, form_accepted, accepted_at, reached, reached_accepted, readable}
-
-pub forms_push : (t : List Entry) (e : Entry) → flat_map form (t ++ e ∷ []) ≡ flat_map form t ++ form e
-forms_push [] e = append-nil (form e)
-forms_push (x ∷ t) e = ap (λ (l : List ℕ). form x ++ l) (forms_push t e) ∙ sym (append_assoc (form x) (flat_map form t) (form e))
+use Rattle.trace.proofs.Tries.{form_entry, form_accepted, accepted_at, reached, reached_accepted}
 
 -- one ending where the bytes are the same
 ends_same : (t : List Entry) (rest : List ℕ) (r s : ℕ) → Ends t rest r → Ends t rest s → r ≡ s
@@ -54,29 +49,6 @@ only_from past (e ∷ t) (f ∷ u) rest left r s at au q h g =
 pub dump_only : (bytes : List ℕ) (t u : List Entry) (r s : ℕ) → DumpOf bytes t r → DumpOf bytes u s → (u ≡ t) × (s ≡ r)
 dump_only bytes t u r s d e =
     only_from [] t u d.rest e.rest r s (reached_accepted t d.reached) (reached_accepted u e.reached) (sym d.holds ∙ e.holds) d.ends e.ends
-
--- the bytes of an accepted entry
-size_fits : (t : List Entry) (bytes : List ℕ) → refusal_of t bytes ≡ 0 → (size_of (kind_byte bytes) ≤ length bytes) × (2 ≤ size_of (kind_byte bytes))
-size_fits t bytes h = let r = readable bytes t h in (grind (arith, nat_tests), grind (arith, nat_tests))
-
--- one entry more is read: the events, and what is left
-pub one_more : (bytes : List ℕ) (old new : List Entry) (at : ℕ) (a : Added) → at ≤ length bytes → bytes ≡ flat_map form old ++ drop at bytes → Accepts old new (drop at bytes) a
-    → (at + a.used ≤ length bytes) × (bytes ≡ flat_map form new ++ drop (at + a.used) bytes) × (2 ≤ a.used)
-one_more bytes old new at a l h acc =
-    let rest = drop at bytes in
-    let e = entry_of rest in
-    let fits = size_fits old rest acc.none_applies in
-    let low = fits.0 in
-    let high = fits.1 in
-    let size = acc.size in
-    let n = length-drop at bytes in
-    let split : rest ≡ form e ++ drop (at + a.used) bytes =
-    sym (take-append-drop a.used rest) ∙ ap (λ (l : List ℕ). l ++ drop a.used rest) acc.stored ∙ ap (λ (l : List ℕ). form e ++ l) (drop-drop a.used at bytes) in (
-      omega arith,
-      h ∙ ap (λ (l : List ℕ). flat_map form old ++ l) split ∙ sym (append_assoc (flat_map form old) (form e) (drop (at + a.used) bytes))
-          ∙ ap (λ (l : List ℕ). l ++ drop (at + a.used) bytes) (sym (forms_push old e) ∙ ap (flat_map form) (sym acc.events)),
-      omega arith,
-    )
 
 -- a trace has at most 512 events, and their forms at most 2048 bytes
 few_events : (t : List Entry) → Accepted t → length t ≤ 512
@@ -135,13 +107,12 @@ dump_read : (bytes : List ℕ) (t : List Entry) (r : ℕ) → DumpOf bytes t r �
 dump_read bytes t r d = record { is = d; only = λ u s e. dump_only bytes t u r s d e; enough = dump_enough bytes t r d }
 
 -- the bytes are used up
-pub read_all : (bytes : List ℕ) (t : List Entry) (at : ℕ) → Accepted t → length bytes ≤ at → bytes ≡ flat_map form t ++ drop at bytes → DumpRead bytes t 0
-read_all bytes t at acc l h =
-    dump_read bytes t 0 (record { reached = reached t acc; rest = []; holds = h ∙ ap (λ (l : List ℕ). flat_map form t ++ l) (drop_all at bytes l); ends = refl })
+pub read_all : (bytes : List ℕ) (t : List Entry) (rest : List ℕ) → Accepted t → length rest ≡ 0 → bytes ≡ flat_map form t ++ rest → DumpRead bytes t 0
+read_all bytes t (b ∷ bs) acc l h = absurd (let no : ⊥ = omega arith in no)
+read_all bytes t [] acc l h = dump_read bytes t 0 (record { reached = reached t acc; rest = []; holds = h; ends = refl })
 
 -- an entry is refused
-pub read_until : (bytes : List ℕ) (t : List Entry) (at r : ℕ) → Accepted t → at < length bytes → bytes ≡ flat_map form t ++ drop at bytes → refusal_of t (drop at bytes) ≡ r → (r ≡ 0 → ⊥)
+pub read_until : (bytes : List ℕ) (t : List Entry) (rest : List ℕ) (r : ℕ) → Accepted t → 1 ≤ length rest → bytes ≡ flat_map form t ++ rest → refusal_of t rest ≡ r → (r ≡ 0 → ⊥)
     → DumpRead bytes t r
-read_until bytes t at r acc l h f p =
-    dump_read bytes t r
-    (record { reached = reached t acc; rest = drop at bytes; holds = h; ends = ends_from t (drop at bytes) r (omega (arith, length-drop at bytes)) f p })
+read_until bytes t rest r acc l h f p =
+    dump_read bytes t r (record { reached = reached t acc; rest = rest; holds = h; ends = ends_from t rest r l f p })

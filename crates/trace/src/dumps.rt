@@ -1,4 +1,5 @@
 ghost use Rattle.std.specs.Prelude.{◌≡◌, [], IfOk};
+ghost use Rattle.std.specs.Result.{result_err};
 ghost use Rattle.trace.specs.Dumps.{refused_number, most_bytes, DumpRead};
 ghost use Rattle.trace.specs.Of.{events_of};
 
@@ -23,22 +24,20 @@ impl Dump {
         ensures read { IfOk result (λ d. DumpRead bytes.now (events_of d.trace) (refused_number d.refused)) }
     {
         let mut trace = Trace::new(heap)?;
-        let refused = add_all(&mut trace, bytes);
+        let refused = add_all(&mut trace, bytes).err();
         Ok(Dump { trace, refused })
     }
 }
 
-// Adds the bytes' entries to a new trace, and answers the refusal that ends them, if one does.
-fn add_all(trace: &mut Trace, bytes: &[u8]) -> Option<Refusal>
+// Adds the bytes' entries to a new trace, until the bytes are used up or an entry is refused.
+fn add_all(trace: &mut Trace, bytes: &[u8]) -> Result<(), Refusal>
     requires { events_of trace.old ≡ [] }
-    ensures { DumpRead bytes.now (events_of trace.new) (refused_number result) }
+    ensures { DumpRead bytes.now (events_of trace.new) (refused_number (result_err result)) }
 {
-    let mut at = 0;
-    while at < bytes.len() {
-        match trace.add(&bytes[at..]) {
-            Ok(added) => at += added.used,
-            Err(refusal) => return Some(refusal),
-        }
+    let mut rest = bytes;
+    while !rest.is_empty() {
+        let added = trace.add(rest)?;
+        rest = &rest[added.used..];
     }
-    None
+    Ok(())
 }
