@@ -43,9 +43,7 @@ impl Entry {
         ensures { result ≡ port_of self }
     {
         match self {
-            Entry::Local { port } => port,
-            Entry::Send { port, .. } => port,
-            Entry::Receipt { port, .. } => port,
+            Entry::Local { port } | Entry::Send { port, .. } | Entry::Receipt { port, .. } => port,
         }
     }
 }

@@ -2,7 +2,7 @@ ghost use Rattle.std.specs.Prelude.{◌≡◌, Decides};
 ghost use Rattle.trace.specs.HappenedBefore.{HappenedBefore};
 ghost use Rattle.trace.specs.Decision.{happened};
 ghost use Rattle.trace.specs.Of.{events_of};
-ghost use Rattle.trace.specs.DecisionLemmas as Decision;
+ghost use Rattle.trace.specs.DecisionLemmas.{lawful};
 
 use crate::traces::Trace;
 use clock::Order;
@@ -13,15 +13,12 @@ impl Order for Trace {
 
     ghost precedes = { λ t. happened (events_of t) };
 
-    ghost lawful = { λ o. Decision.lawful (events_of o) o.accepted };
+    ghost lawful = { λ o. lawful (events_of o) o.accepted };
 
     fn before(&self, a: &u16, b: &u16) -> bool
         ensures value { result ≡ happened (events_of self.now) a.now b.now }
         ensures exact { Decides result (HappenedBefore (events_of self.now) a.now b.now) }
     {
-        match self.happened_before(*a, *b) {
-            Ok(answer) => answer,
-            Err(_) => false,
-        }
+        self.happened_before(*a, *b).unwrap_or(false)
     }
 }

@@ -9,4 +9,4 @@ returns c =
     let us = c.args.other.now.words in
     let vs = c.from_fn-self.result in
     held_join ws us vs (search rules) (search rules) (search rules)
-    (made (λ (k : ℕ). bit_or (get_or ws k 0) (get_or us k 0)) vs 8 (λ i y q l w. search rules) c.from_fn-self.ensures.items)
+    (made (λ (k : ℕ). bit_or (get_or ws k 0) (get_or us k 0)) vs 8 (λ i y q l w. (search rules, search rules)) c.from_fn-self.ensures.items)
