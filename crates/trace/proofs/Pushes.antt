@@ -3,11 +3,10 @@ use Rattle.std.proofs.Common.{◌≡◌, ℕ, suc, ◌+◌, ◌<◌, ◌≤◌, 
 use Rattle.std.proofs.lemmas.Bool.{eq-eqb, ne_eqb, cases_eq}
 use Rattle.std.proofs.lemmas.List.{length-take-le, get_or_append_left, get_or_push, length_push, take-append-le, take_at, get_or-set_same, get_or-set_other, get_or-replicate}
 use Rattle.trace.specs.declared.entries.Entry.{Entry}
-use Rattle.trace.specs.declared.causes.DirectCauses.{DirectCauses}
-use Rattle.trace.specs.declared.rows.CauseRow.{CauseRow}
+use Rattle.trace.specs.declared.causes.EventCauses.{EventCauses}
 use Rattle.trace.specs.Entries.{port_number_of}
 use Rattle.trace.specs.Decision.{on_port_number, or_else, last_from, last_on, last_for, send_for, at_or_before}
-use Rattle.trace.specs.Invariants.{entry_at, Acceptable, Accepted, Latest, direct_at, Caused, is_below, Acyclic, row_of, Closed}
+use Rattle.trace.specs.Invariants.{entry_at, Acceptable, Accepted, Latest, causes_at, direct_at, Caused, is_below, Acyclic, row_of, Closed}
 use Rattle.trace.specs.Messages.{same}
 use Rattle.trace.specs.Rows.{held}
 use Rattle.trace.specs.DecisionLemmas.{last_before, send_before, both_same}
@@ -83,61 +82,59 @@ last_below t e = below_from (length t) (last_for t e) (last_before t e)
 pub send_below : (t : List Entry) (e : Entry) → is_below (length t) (send_for t e) ≡ true
 send_below t e = below_from (length t) (send_for t e) (send_before t e)
 
--- the direct causes of the old events stay, and the new event's come after them
-direct_old : (ds : List DirectCauses) (d : DirectCauses) (P : DirectCauses → Type 0) (j : ℕ) → j < length ds → P (direct_at ds j) → P (direct_at (ds ++ d ∷ []) j)
-direct_old ds d P j l h = subst P (sym (get_or_append_left ds (d ∷ []) _ j l)) h
+-- what is kept of the causes of the old events stays, and the new event's comes after it
+causes_old : (cs : List EventCauses) (c : EventCauses) (j : ℕ) → j < length cs → causes_at (cs ++ c ∷ []) j ≡ causes_at cs j
+causes_old cs c j l = get_or_append_left cs (c ∷ []) _ j l
 
-direct_new : (ds : List DirectCauses) (d : DirectCauses) (P : DirectCauses → Type 0) (j : ℕ) → length ds ≡ j → P d → P (direct_at (ds ++ d ∷ []) j)
-direct_new ds d P j e h = subst P (sym (get_or_push ds d _ j e)) h
+causes_new : (cs : List EventCauses) (c : EventCauses) (j : ℕ) → length cs ≡ j → causes_at (cs ++ c ∷ []) j ≡ c
+causes_new cs c j e = get_or_push cs c _ j e
 
-pub caused_push : (ds : List DirectCauses) (d : DirectCauses) (t : List Entry) (e : Entry) → length ds ≡ length t → d.previous ≡ last_for t e → d.send ≡ send_for t e
-    → Caused ds t → Caused (ds ++ d ∷ []) (t ++ e ∷ [])
-caused_push ds d t e n p s h =
-    each_push (λ j past x. (same (direct_at (ds ++ d ∷ []) j).previous (last_for past x) ≡ true) × (same (direct_at (ds ++ d ∷ []) j).send (send_for past x) ≡ true)) t e
-    (λ j l. direct_old ds d (λ (y : DirectCauses). (same y.previous (last_for (take j t) (entry_at t j)) ≡ true) × (same y.send (send_for (take j t) (entry_at t j)) ≡ true)) j (omega arith) (h j l))
-    (direct_new ds d (λ (y : DirectCauses). (same y.previous (last_for t e) ≡ true) × (same y.send (send_for t e) ≡ true)) (length t) n (eq_same _ _ p, eq_same _ _ s))
+pub caused_push : (cs : List EventCauses) (c : EventCauses) (t : List Entry) (e : Entry) → length cs ≡ length t → c.direct.previous ≡ last_for t e → c.direct.send ≡ send_for t e
+    → Caused cs t → Caused (cs ++ c ∷ []) (t ++ e ∷ [])
+caused_push cs c t e n p s h =
+    each_push (λ j past x. (same (direct_at (cs ++ c ∷ []) j).previous (last_for past x) ≡ true) × (same (direct_at (cs ++ c ∷ []) j).send (send_for past x) ≡ true)) t e
+    (λ j l.
+    subst (λ (y : EventCauses). (same y.direct.previous (last_for (take j t) (entry_at t j)) ≡ true) × (same y.direct.send (send_for (take j t) (entry_at t j)) ≡ true))
+    (sym (causes_old cs c j (omega arith))) (h j l))
+    (subst (λ (y : EventCauses). (same y.direct.previous (last_for t e) ≡ true) × (same y.direct.send (send_for t e) ≡ true)) (sym (causes_new cs c (length t) n))
+    (eq_same _ _ p, eq_same _ _ s))
 
-pub acyclic_push : (ds : List DirectCauses) (d : DirectCauses) (t : List Entry) (e : Entry) → length ds ≡ length t → d.previous ≡ last_for t e → d.send ≡ send_for t e
-    → Acyclic ds t → Acyclic (ds ++ d ∷ []) (t ++ e ∷ [])
-acyclic_push ds d t e n p s h =
-    each_push (λ j past x. (is_below j (direct_at (ds ++ d ∷ []) j).previous ≡ true) × (is_below j (direct_at (ds ++ d ∷ []) j).send ≡ true)) t e
-    (λ j l. direct_old ds d (λ (y : DirectCauses). (is_below j y.previous ≡ true) × (is_below j y.send ≡ true)) j (omega arith) (h j l))
-    (direct_new ds d (λ (y : DirectCauses). (is_below (length t) y.previous ≡ true) × (is_below (length t) y.send ≡ true)) (length t) n
+pub acyclic_push : (cs : List EventCauses) (c : EventCauses) (t : List Entry) (e : Entry) → length cs ≡ length t → c.direct.previous ≡ last_for t e → c.direct.send ≡ send_for t e
+    → Acyclic cs t → Acyclic (cs ++ c ∷ []) (t ++ e ∷ [])
+acyclic_push cs c t e n p s h =
+    each_push (λ j past x. (is_below j (direct_at (cs ++ c ∷ []) j).previous ≡ true) × (is_below j (direct_at (cs ++ c ∷ []) j).send ≡ true)) t e
+    (λ j l.
+    subst (λ (y : EventCauses). (is_below j y.direct.previous ≡ true) × (is_below j y.direct.send ≡ true)) (sym (causes_old cs c j (omega arith))) (h j l))
+    (subst (λ (y : EventCauses). (is_below (length t) y.direct.previous ≡ true) × (is_below (length t) y.direct.send ≡ true)) (sym (causes_new cs c (length t) n))
     (ap (is_below (length t)) p ∙ last_below t e, ap (is_below (length t)) s ∙ send_below t e))
 
-pub caused_none : (ds : List DirectCauses) → Caused ds []
-caused_none ds j l = absurd (not-suc-le-zero l)
+pub caused_none : (cs : List EventCauses) → Caused cs []
+caused_none cs j l = absurd (not-suc-le-zero l)
 
-pub acyclic_none : (ds : List DirectCauses) → Acyclic ds []
-acyclic_none ds j l = absurd (not-suc-le-zero l)
+pub acyclic_none : (cs : List EventCauses) → Acyclic cs []
+acyclic_none cs j l = absurd (not-suc-le-zero l)
 
 -- rows
-row_old : (rows : List CauseRow) (r : CauseRow) (c i : ℕ) → c < length rows → row_of (rows ++ r ∷ []) c i ≡ row_of rows c i
-row_old rows r c i l = ap (λ (w : CauseRow). held w.words i) (get_or_append_left rows (r ∷ []) _ c l)
+at_push : (cs : List EventCauses) (c : EventCauses) (o : Option ℕ) (i : ℕ) → ((k : ℕ) → o ≡ Some k → k < length cs) → at_or_before (row_of (cs ++ c ∷ [])) o i ≡ at_or_before (row_of cs) o i
+at_push cs c None i h = refl
+at_push cs c (Some k) i h = ap (λ (y : EventCauses). eqb i k || held y.row.words i) (causes_old cs c k (h k refl))
 
-row_new : (rows : List CauseRow) (r : CauseRow) (c i : ℕ) → length rows ≡ c → row_of (rows ++ r ∷ []) c i ≡ held r.words i
-row_new rows r c i e = ap (λ (w : CauseRow). held w.words i) (get_or_push rows r _ c e)
+pub closed_none : (cs : List EventCauses) → Closed [] (row_of cs)
+closed_none cs j l = absurd (not-suc-le-zero l)
 
-at_push : (rows : List CauseRow) (r : CauseRow) (o : Option ℕ) (i : ℕ) → ((c : ℕ) → o ≡ Some c → c < length rows) → at_or_before (row_of (rows ++ r ∷ [])) o i ≡ at_or_before (row_of rows) o i
-at_push rows r None i h = refl
-at_push rows r (Some c) i h = ap (λ (b : Bool). eqb i c || b) (row_old rows r c i (h c refl))
-
-pub closed_none : (rows : List CauseRow) → Closed [] (row_of rows)
-closed_none rows j l = absurd (not-suc-le-zero l)
-
-pub closed_push : (t : List Entry) (e : Entry) (rows : List CauseRow) (r : CauseRow) (p s : Option ℕ) → length rows ≡ length t → p ≡ last_for t e → s ≡ send_for t e → Closed t (row_of rows)
-    → ((i : ℕ) → held r.words i ≡ (at_or_before (row_of rows) p i || at_or_before (row_of rows) s i))
-    → Closed (t ++ e ∷ []) (row_of (rows ++ r ∷ []))
-closed_push t e rows r p s n pe se h new =
-    each_push (λ j past x. (i : ℕ) → row_of (rows ++ r ∷ []) j i ≡ (at_or_before (row_of (rows ++ r ∷ [])) (last_for past x) i || at_or_before (row_of (rows ++ r ∷ [])) (send_for past x) i)) t e
+pub closed_push : (t : List Entry) (e : Entry) (cs : List EventCauses) (c : EventCauses) (p s : Option ℕ) → length cs ≡ length t → p ≡ last_for t e → s ≡ send_for t e → Closed t (row_of cs)
+    → ((i : ℕ) → held c.row.words i ≡ (at_or_before (row_of cs) p i || at_or_before (row_of cs) s i))
+    → Closed (t ++ e ∷ []) (row_of (cs ++ c ∷ []))
+closed_push t e cs c p s n pe se h new =
+    each_push (λ j past x. (i : ℕ) → row_of (cs ++ c ∷ []) j i ≡ (at_or_before (row_of (cs ++ c ∷ [])) (last_for past x) i || at_or_before (row_of (cs ++ c ∷ [])) (send_for past x) i)) t e
     (λ j l i.
     let m = length-take-le j t (omega arith) in
-    row_old rows r j i (omega arith) ∙ h j l i
+    ap (λ (y : EventCauses). held y.row.words i) (causes_old cs c j (omega arith)) ∙ h j l i
     ∙ both_same
-    (sym (at_push rows r (last_for (take j t) (entry_at t j)) i (λ c q. let b = last_before (take j t) (entry_at t j) c q in omega arith)))
-    (sym (at_push rows r (send_for (take j t) (entry_at t j)) i (λ c q. let b = send_before (take j t) (entry_at t j) c q in omega arith))))
+    (sym (at_push cs c (last_for (take j t) (entry_at t j)) i (λ k q. let b = last_before (take j t) (entry_at t j) k q in omega arith)))
+    (sym (at_push cs c (send_for (take j t) (entry_at t j)) i (λ k q. let b = send_before (take j t) (entry_at t j) k q in omega arith))))
     (λ i.
-    row_new rows r (length t) i n ∙ new i
+    ap (λ (y : EventCauses). held y.row.words i) (causes_new cs c (length t) n) ∙ new i
     ∙ both_same
-    (ap (λ (o : Option ℕ). at_or_before (row_of rows) o i) pe ∙ sym (at_push rows r (last_for t e) i (λ c q. let b = last_before t e c q in omega arith)))
-    (ap (λ (o : Option ℕ). at_or_before (row_of rows) o i) se ∙ sym (at_push rows r (send_for t e) i (λ c q. let b = send_before t e c q in omega arith))))
+    (ap (λ (o : Option ℕ). at_or_before (row_of cs) o i) pe ∙ sym (at_push cs c (last_for t e) i (λ k q. let b = last_before t e k q in omega arith)))
+    (ap (λ (o : Option ℕ). at_or_before (row_of cs) o i) se ∙ sym (at_push cs c (send_for t e) i (λ k q. let b = send_before t e k q in omega arith))))

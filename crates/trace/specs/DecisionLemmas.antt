@@ -12,12 +12,11 @@ use Rattle.std.specs.List.{slice_get}
 use Rattle.clock.specs.Orders.{Lawful}
 use Rattle.trace.specs.declared.entries.Entry.{Entry}
 use Rattle.trace.specs.declared.entries.Entry.TheVariants.{Local, Send, Receipt}
-use Rattle.trace.specs.declared.rows.CauseRow.{CauseRow}
 use Rattle.trace.specs.Entries.{port_number_of}
 use Rattle.trace.specs.HappenedBefore.{HappenedBefore, through}
 use Rattle.trace.specs.Decision.{last_for, send_for, cause_by, port_cause, message_cause, at_or_before, leads_back, happened}
 use Rattle.trace.specs.Causality.{Causal}
-use Rattle.trace.specs.Invariants.{entry_at, Accepted, row_of, Closed}
+use Rattle.trace.specs.Invariants.{entry_at, Accepted, Closed}
 use Rattle.trace.specs.Options.{not_none}
 use Rattle.trace.specs.Closure.{last_of, sender_some, before_lower, row_exact, row_complete}
 
@@ -95,9 +94,8 @@ module _ (t : List Entry) where
     causal = record { upward = λ i j h. before_lower t acc h; decided = decided; lawful = lawful }
 
     -- rows that hold the direct causes and what is in their rows are the decision
-    pub row_happened : (rows : List CauseRow) → Closed t (row_of rows) → (i j : ℕ) → j < length t → row_of rows j i ≡ happened t i j
-    row_happened rows closed i j l =
-        same_from_decides (row_of rows j i) (happened t i j) (row_exact t acc (row_of rows) closed i j l, row_complete t acc (row_of rows) closed) (decided i j)
+    pub row_happened : (row : ℕ → ℕ → Bool) → Closed t row → (i j : ℕ) → j < length t → row j i ≡ happened t i j
+    row_happened row closed i j l = same_from_decides (row j i) (happened t i j) (row_exact t acc row closed i j l, row_complete t acc row closed) (decided i j)
 
     -- a number that is no event's has no part in it
     pub none_outside : (i j : ℕ) → (i < length t → j < length t → ⊥) → HappenedBefore t i j → ⊥

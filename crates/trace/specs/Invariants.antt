@@ -1,11 +1,11 @@
 -- What a trace keeps of its events: the invariant of the trace struct. Assumes nothing.
-use Rattle.std.specs.Prelude.{◌≡◌, ℕ, ◌<◌, Bool, true, ◌||◌, List, [], length, get_or, take, Some, None, Option, nat_lt, slice_index_or}
+use Rattle.std.specs.Prelude.{◌≡◌, ℕ, ◌<◌, Bool, true, ◌||◌, List, [], length, take, Some, None, Option, nat_lt, slice_index_or}
 use Rattle.clock.specs.declared.ports.Port.TheVariants.{P0}
 use Rattle.clock.specs.Refusals.{lowest}
 use Rattle.trace.specs.declared.entries.Entry.{Entry}
 use Rattle.trace.specs.declared.entries.Entry.TheVariants.{Local}
 use Rattle.trace.specs.declared.causes.DirectCauses.{DirectCauses}
-use Rattle.trace.specs.declared.rows.CauseRow.{CauseRow}
+use Rattle.trace.specs.declared.causes.EventCauses.{EventCauses}
 use Rattle.trace.specs.Entries.{message_number}
 use Rattle.trace.specs.Adding.{event_conditions}
 use Rattle.trace.specs.Decision.{last_on, last_for, send_for, at_or_before}
@@ -28,15 +28,19 @@ Accepted t = (i : ℕ) → i < length t → Acceptable (take i t) (entry_at t i)
 abbrev pub Latest : List (Option ℕ) → List Entry → Type 0
 Latest latest t = (p : ℕ) → p < 8 → same (slice_index_or latest p None) (last_on p t) ≡ true
 
+-- what is kept of the causes of event j, where there is no such event none
+abbrev pub causes_at : List EventCauses → ℕ → EventCauses
+causes_at cs j = slice_index_or cs j (record { direct = record { previous = None; send = None }; row = record { words = [] } })
+
 -- the direct causes that are kept of event j
-abbrev pub direct_at : List DirectCauses → ℕ → DirectCauses
-direct_at ds j = slice_index_or ds j (record { previous = None; send = None })
+abbrev pub direct_at : List EventCauses → ℕ → DirectCauses
+direct_at cs j = (causes_at cs j).direct
 
 -- .. are those of its entry
-abbrev pub Caused : List DirectCauses → List Entry → Type 0
-Caused ds t =
+abbrev pub Caused : List EventCauses → List Entry → Type 0
+Caused cs t =
     (j : ℕ) → j < length t
-    → (same (direct_at ds j).previous (last_for (take j t) (entry_at t j)) ≡ true) × (same (direct_at ds j).send (send_for (take j t) (entry_at t j)) ≡ true)
+    → (same (direct_at cs j).previous (last_for (take j t) (entry_at t j)) ≡ true) × (same (direct_at cs j).send (send_for (take j t) (entry_at t j)) ≡ true)
 
 -- an event that may be absent is below n
 abbrev pub is_below : ℕ → Option ℕ → Bool
@@ -44,12 +48,12 @@ is_below n None = true
 is_below n (Some c) = nat_lt c n
 
 -- direct causes are lower in number than their event, so none leads back to it
-abbrev pub Acyclic : List DirectCauses → List Entry → Type 0
-Acyclic ds t = (j : ℕ) → j < length t → (is_below j (direct_at ds j).previous ≡ true) × (is_below j (direct_at ds j).send ≡ true)
+abbrev pub Acyclic : List EventCauses → List Entry → Type 0
+Acyclic cs t = (j : ℕ) → j < length t → (is_below j (direct_at cs j).previous ≡ true) × (is_below j (direct_at cs j).send ≡ true)
 
 -- whether event i is in the row of event j
-abbrev pub row_of : List CauseRow → ℕ → ℕ → Bool
-row_of rows j i = held (get_or rows j (record { words = [] })).words i
+abbrev pub row_of : List EventCauses → ℕ → ℕ → Bool
+row_of cs j i = held (causes_at cs j).row.words i
 
 -- the row of an event has its direct causes and what is in their rows
 abbrev pub Closed : List Entry → (ℕ → ℕ → Bool) → Type 0

@@ -9,7 +9,7 @@ ghost use Rattle.trace.specs.Rows.{held};
 use super::Trace;
 use crate::MOST_EVENTS;
 use crate::added::Added;
-use crate::causes::DirectCauses;
+use crate::causes::{DirectCauses, EventCauses};
 use crate::entries::Entry;
 use crate::messages::MessageTable;
 use crate::rows::CauseRow;
@@ -22,13 +22,11 @@ impl Trace {
         ensures { IfOk result (λ t. events_of t ≡ []) }
     {
         let entries = Vec::with_capacity(heap, MOST_EVENTS)?;
-        let direct = Vec::with_capacity(heap, MOST_EVENTS)?;
-        let rows = Vec::with_capacity(heap, MOST_EVENTS)?;
+        let causes = Vec::with_capacity(heap, MOST_EVENTS)?;
         let messages = MessageTable::new(heap)?;
         Ok(Trace {
             entries,
-            direct,
-            rows,
+            causes,
             messages,
             latest: [None; 8],
         })
@@ -55,38 +53,38 @@ impl Trace {
         }
         let event = count as u16;
         let send = self.messages.note(entry, event)?;
-        let port = entry.port().number() as usize;
+        let port = usize::from(entry.port().number());
         let previous = self.latest[port];
-        let row = row_after(&self.rows, previous, send);
+        let row = row_after(&self.causes, previous, send);
         self.latest[port] = Some(event);
-        self.rows.push_reserved(row);
-        self.direct.push_reserved(DirectCauses { previous, send });
+        let direct = DirectCauses { previous, send };
+        self.causes.push_reserved(EventCauses { direct, row });
         self.entries.push_reserved(entry);
         Ok(event)
     }
 }
 
 // The row of an event with these direct causes.
-fn row_after(rows: &[CauseRow], previous: Option<u16>, send: Option<u16>) -> CauseRow
-    requires previous { is_below (length rows.now) previous ≡ true }
-    requires send { is_below (length rows.now) send ≡ true }
-    requires few { length rows.now ≤ 512 }
-    ensures { (k : ℕ) → held result.words k ≡ (at_or_before (row_of rows.now) previous k || at_or_before (row_of rows.now) send k) }
+fn row_after(causes: &[EventCauses], previous: Option<u16>, send: Option<u16>) -> CauseRow
+    requires previous { is_below (length causes.now) previous ≡ true }
+    requires send { is_below (length causes.now) send ≡ true }
+    requires few { length causes.now ≤ 512 }
+    ensures { (k : ℕ) → held result.words k ≡ (at_or_before (row_of causes.now) previous k || at_or_before (row_of causes.now) send k) }
 {
     let mut row = CauseRow::new();
-    add_cause(&mut row, rows, previous);
-    add_cause(&mut row, rows, send);
+    add_cause(&mut row, causes, previous);
+    add_cause(&mut row, causes, send);
     row
 }
 
 // Puts a direct cause in a row, with all that happened before it.
-fn add_cause(row: &mut CauseRow, rows: &[CauseRow], cause: Option<u16>)
-    requires cause { is_below (length rows.now) cause ≡ true }
-    requires few { length rows.now ≤ 512 }
-    ensures { (k : ℕ) → held row.new.words k ≡ (held row.old.words k || at_or_before (row_of rows.now) cause k) }
+fn add_cause(row: &mut CauseRow, causes: &[EventCauses], cause: Option<u16>)
+    requires cause { is_below (length causes.now) cause ≡ true }
+    requires few { length causes.now ≤ 512 }
+    ensures { (k : ℕ) → held row.new.words k ≡ (held row.old.words k || at_or_before (row_of causes.now) cause k) }
 {
     if let Some(event) = cause {
         row.insert(event);
-        row.join(&rows[event as usize]);
+        row.join(&causes[usize::from(event)].row);
     }
 }

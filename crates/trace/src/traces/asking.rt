@@ -1,10 +1,10 @@
-ghost use Rattle.std.specs.Prelude.{◌≡◌};
+ghost use Rattle.std.specs.Prelude.{◌≡◌, IfOk, IfErr};
 ghost use Rattle.trace.specs.Adding.{Reached};
-ghost use Rattle.trace.specs.Causality.{CausalRuns, BeforeAnswer, CausesAnswer, DirectAnswer};
+ghost use Rattle.trace.specs.Causality.{CausalRuns, NoSuchEvents, BeforeAnswer, Causes, CausesAnswer, Direct, DirectAnswer};
 ghost use Rattle.trace.specs.Of.{events_of};
 
 use super::Trace;
-use crate::causes::DirectCauses;
+use crate::causes::{DirectCauses, EventCauses};
 use crate::entries::Entry;
 use crate::rows::CauseRow;
 use clock::Refusal;
@@ -24,30 +24,34 @@ impl Trace {
     pub fn happened_before(&self, a: u16, b: u16) -> Result<bool, Refusal>
         ensures { BeforeAnswer (events_of self.now) a b result }
     {
-        let count = self.entries.len();
-        if a as usize >= count || b as usize >= count {
+        if usize::from(a) >= self.entries.len() {
             return Err(Refusal::NoSuchEvent);
         }
-        Ok(self.rows[b as usize].has(a))
+        Ok(self.causes_of(b)?.row.has(a))
     }
 
     // The direct causes of an event.
     pub fn direct_causes(&self, event: u16) -> Result<DirectCauses, Refusal>
         ensures { DirectAnswer (events_of self.now) event result }
     {
-        if event as usize >= self.direct.len() {
-            return Err(Refusal::NoSuchEvent);
-        }
-        Ok(self.direct[event as usize])
+        Ok(self.causes_of(event)?.direct)
     }
 
     // All events that happened before an event.
     pub fn causes(&self, event: u16) -> Result<CauseRow, Refusal>
         ensures { CausesAnswer (events_of self.now) event result }
     {
-        if event as usize >= self.rows.len() {
-            return Err(Refusal::NoSuchEvent);
-        }
-        Ok(self.rows[event as usize])
+        Ok(self.causes_of(event)?.row)
+    }
+
+    // What is kept of the causes of an event; a number that is no event's is refused.
+    fn causes_of(&self, event: u16) -> Result<&EventCauses, Refusal>
+        ensures direct { IfOk result (λ c. Direct (events_of self.now) event c.now.direct) }
+        ensures row { IfOk result (λ c. Causes (events_of self.now) event c.now.row) }
+        ensures missing { IfErr result (λ f. NoSuchEvents (events_of self.now) event event f) }
+    {
+        self.causes
+            .get(usize::from(event))
+            .ok_or(Refusal::NoSuchEvent)
     }
 }

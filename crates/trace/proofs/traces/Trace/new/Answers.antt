@@ -23,15 +23,15 @@ invariant_of-result-clause-lasts c =
 
 pub invariant_of-result-clause-caused : goal.invariant_of-result-clause-caused
 invariant_of-result-clause-caused c =
-    let ds = vec_items c.in_ok-direct.direct in
-    subst (λ t. Caused ds t) (sym c.in_ok-entries.ensures.items) (caused_none ds)
+    let cs = vec_items c.in_ok-causes.causes in
+    subst (λ t. Caused cs t) (sym c.in_ok-entries.ensures.items) (caused_none cs)
 
 pub invariant_of-result-clause-acyclic : goal.invariant_of-result-clause-acyclic
 invariant_of-result-clause-acyclic c =
-    let ds = vec_items c.in_ok-direct.direct in
-    subst (λ t. Acyclic ds t) (sym c.in_ok-entries.ensures.items) (acyclic_none ds)
+    let cs = vec_items c.in_ok-causes.causes in
+    subst (λ t. Acyclic cs t) (sym c.in_ok-entries.ensures.items) (acyclic_none cs)
 
 pub invariant_of-result-clause-closed : goal.invariant_of-result-clause-closed
 invariant_of-result-clause-closed c =
-    let rows = vec_items c.in_ok-rows.rows in
-    subst (λ t. Closed t (row_of rows)) (sym c.in_ok-entries.ensures.items) (closed_none rows)
+    let cs = vec_items c.in_ok-causes.causes in
+    subst (λ t. Closed t (row_of cs)) (sym c.in_ok-entries.ensures.items) (closed_none cs)
