@@ -2,7 +2,7 @@
 use Rattle.std.proofs.Common.{◌≡◌, ℕ, suc, ◌+◌, ◌<◌, Bool, true, false, cond, eqb, List, [], ◌∷◌, ◌++◌, length, set, replicate, is_some, Some, None, Option, sym, refl, ap, ◌∙◌, subst, inl, inr, add-zero, zero-add, arith}
 use Rattle.std.proofs.lemmas.Bool.{eq-eqb, ne_eqb, cases_eq, cases_Bool}
 use Rattle.std.proofs.lemmas.Bool.Decides.{nat_tests}
-use Rattle.std.proofs.lemmas.List.{get_or-set_same, get_or-set_other, get_or-replicate, length-set}
+use Rattle.std.proofs.lemmas.List.{get_or-set_same, get_or-set_other, get_or-replicate}
 use Rattle.clock.specs.Refusals.{lowest}
 use Rattle.trace.specs.declared.entries.Entry.{Entry}
 use Rattle.trace.specs.declared.entries.Entry.TheVariants.{Local, Send, Receipt}
@@ -105,8 +105,3 @@ pub sent_is : (rs : List MessageRecord) (t : List Entry) (e : Entry) → Agrees 
 sent_is rs t (Local p) h l = refl
 sent_is rs t (Send p n) h l = refl
 sent_is rs t (Receipt p n) h l = same_eq _ _ (h n l).0
-
-pub length_noted : (rs : List MessageRecord) (e : Entry) (n : ℕ) → length (noted rs e n) ≡ length rs
-length_noted rs (Local p) n = refl
-length_noted rs (Send p m) n = length-set rs m _
-length_noted rs (Receipt p m) n = length-set rs m _

@@ -6,6 +6,7 @@ pub mod HappenedBefore
 pub mod Decision
 pub mod Causality
 pub mod Messages
+pub mod Lending
 pub mod Invariants
 pub mod Of
 pub mod Dumps

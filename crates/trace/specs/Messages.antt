@@ -39,16 +39,15 @@ with_sender m event = record { sender = Some event; receiver = m.receiver }
 abbrev pub with_receiver : MessageRecord → ℕ → MessageRecord
 with_receiver m event = record { sender = m.sender; receiver = Some event }
 
-abbrev pub SendNoted : List MessageRecord → List MessageRecord → ℕ → ℕ → Result Unit Refusal → Type 0
-SendNoted old new n event (Ok _) = (lowest 7 (send_conditions (record_at old n)) ≡ 0) × (new ≡ slice_set old n (with_sender (record_at old n) event))
-SendNoted old new n event (Err f) = (lowest 7 (send_conditions (record_at old n)) ≡ refusal_number f) × (new ≡ old)
+abbrev pub SendNoted : MessageRecord → MessageRecord → ℕ → Result Unit Refusal → Type 0
+SendNoted old new event (Ok _) = (lowest 7 (send_conditions old) ≡ 0) × (new ≡ with_sender old event)
+SendNoted old new event (Err f) = (lowest 7 (send_conditions old) ≡ refusal_number f) × (new ≡ old)
 
-abbrev pub ReceiptNoted : List MessageRecord → List MessageRecord → ℕ → ℕ → Result ℕ Refusal → Type 0
-ReceiptNoted old new n event (Ok c) =
-    (lowest 7 (receipt_conditions (record_at old n)) ≡ 0) × ((record_at old n).sender ≡ Some c) × (new ≡ slice_set old n (with_receiver (record_at old n) event))
-ReceiptNoted old new n event (Err f) = (lowest 7 (receipt_conditions (record_at old n)) ≡ refusal_number f) × (new ≡ old)
+abbrev pub ReceiptNoted : MessageRecord → MessageRecord → ℕ → Result ℕ Refusal → Type 0
+ReceiptNoted old new event (Ok c) = (lowest 7 (receipt_conditions old) ≡ 0) × (old.sender ≡ Some c) × (new ≡ with_receiver old event)
+ReceiptNoted old new event (Err f) = (lowest 7 (receipt_conditions old) ≡ refusal_number f) × (new ≡ old)
 
--- the same for any entry
+-- the same for any entry, in the table of all records
 abbrev pub note_conditions : List MessageRecord → Entry → List Bool
 note_conditions rs (Local p) = []
 note_conditions rs (Send p n) = send_conditions (record_at rs n)

@@ -1,13 +1,9 @@
-use Rattle.std.proofs.Common.{[], ◌∷◌, None, vec_items, sym, subst, rules}
-use lib.ListN.{length-replicate}
+use Rattle.std.proofs.Common.{[], ◌∷◌, None, vec_items, sym, subst}
 use Rattle.trace.specs.Messages.{Agrees}
 use Rattle.trace.specs.Invariants.{Accepted, Latest, Caused, Acyclic, row_of, Closed}
 use Rattle.trace.proofs.Tables.{agrees_none}
 use Rattle.trace.proofs.Pushes.{accepted_none, latest_none, caused_none, acyclic_none, closed_none}
 use Rattle.trace.proofs.traces.Trace.new.Goals as goal
-
-pub invariant_of-result-clause-numbers : goal.invariant_of-result-clause-numbers
-invariant_of-result-clause-numbers c = search (rules, length-replicate)
 
 pub invariant_of-result-clause-accepted : goal.invariant_of-result-clause-accepted
 invariant_of-result-clause-accepted c = subst Accepted (sym c.in_ok-entries.ensures.items) accepted_none
