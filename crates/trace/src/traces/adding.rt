@@ -55,9 +55,9 @@ impl Trace {
         let send = self.messages.note(entry, event)?;
         let port = usize::from(entry.port().number());
         let previous = self.latest[port];
-        let row = row_after(&self.causes, previous, send);
-        self.latest[port] = Some(event);
         let direct = DirectCauses { previous, send };
+        let row = row_after(&self.causes, direct);
+        self.latest[port] = Some(event);
         self.causes.push_reserved(EventCauses { direct, row });
         self.entries.push_reserved(entry);
         Ok(event)
@@ -65,15 +65,15 @@ impl Trace {
 }
 
 // The row of an event with these direct causes.
-fn row_after(causes: &[EventCauses], previous: Option<u16>, send: Option<u16>) -> CauseRow
-    requires previous { is_below (length causes.now) previous ≡ true }
-    requires send { is_below (length causes.now) send ≡ true }
+fn row_after(causes: &[EventCauses], direct: DirectCauses) -> CauseRow
+    requires previous { is_below (length causes.now) direct.previous ≡ true }
+    requires send { is_below (length causes.now) direct.send ≡ true }
     requires few { length causes.now ≤ 512 }
-    ensures { (k : ℕ) → held result.words k ≡ (at_or_before (row_of causes.now) previous k || at_or_before (row_of causes.now) send k) }
+    ensures { (k : ℕ) → held result.words k ≡ (at_or_before (row_of causes.now) direct.previous k || at_or_before (row_of causes.now) direct.send k) }
 {
     let mut row = CauseRow::new();
-    add_cause(&mut row, causes, previous);
-    add_cause(&mut row, causes, send);
+    add_cause(&mut row, causes, direct.previous);
+    add_cause(&mut row, causes, direct.send);
     row
 }
 
