@@ -1,52 +1,34 @@
 -- Rows of bits: one event put in, two rows joined, and the count of a row's events.
-use Rattle.std.proofs.Common.{◌≡◌, ℕ, zero, suc, ◌+◌, ◌-◌, ◌*◌, ◌/◌, ◌%◌, ◌^◌, ◌<◌, ◌≤◌, max, Bool, true, false, cond, ◌||◌, eqb, List, [], ◌∷◌, length, get_or, take, set, replicate, sym, refl, ap, ◌∙◌, subst, inl, inr, add-zero, add-suc, pow-suc, add-one, arith}
-use native.Mathlib.Nat.{zero-div, div-eq_of_lt, div_self}
+use Rattle.std.proofs.Common.{◌≡◌, ℕ, zero, suc, ◌+◌, ◌*◌, ◌/◌, ◌%◌, ◌^◌, ◌<◌, ◌≤◌, Bool, true, false, cond, ◌||◌, eqb, List, [], ◌∷◌, length, get_or, take, set, replicate, sym, refl, ap, ◌∙◌, subst, inl, inr, add-zero, add-suc, add-one, arith}
 use lib.Arith.{lt-one}
-use lib.Bits.{bit_or, or_step}
+use lib.Bits.{bit_or}
 use lib.Count.{ones, ones_step}
 use denote.Param.Members.{Mut}
 use Rattle.std.specs.Array.{IsFromFnResultFrom, IsFromFnResult}
 use Rattle.std.specs.Fn.{Called}
 use Rattle.std.specs.List.{sum_by}
 use Rattle.std.proofs.lemmas.List.Sums.{sum_by_more}
-use Rattle.std.proofs.lemmas.Nat.{or_shr, shl-shr, shr-shr, shr_below, pow-add, pow_below, pow_pos}
+use Rattle.std.proofs.lemmas.Nat.Bits.{bit_at_or as digit_or, bit_at-zero as digit-zero, bit_at-pow_same as digit-pow_same, bit_at-pow_other as digit-pow_other, bit_at-suc as digit-suc, bit_at_lowest as digit_lowest}
+use Rattle.std.proofs.lemmas.Nat.{shr_below}
 use Rattle.std.proofs.lemmas.List.{length-append, get_or-set_same, get_or-set_other, get_or_past, get_or-replicate, take_all}
 use Rattle.std.proofs.lemmas.Bool.{eq-eqb, ne_eqb, cases_eq, cases_lt}
 use Rattle.std.proofs.lemmas.Bool.Decides.{nat_tests}
 use Rattle.trace.specs.Rows.{bit_at, held, members}
 
-low_or : (a b : ℕ) → bit_or a b % 2 ≡ max (a % 2) (b % 2)
-low_or a b = omega (arith, or_step a b)
-
 pub bit_at_or : (a b k : ℕ) → bit_at (bit_or a b) k ≡ (bit_at a k || bit_at b k)
 unfolding bit_at
-bit_at_or a b k =
-    let e : bit_or a b / 2 ^ k % 2 ≡ max (a / 2 ^ k % 2) (b / 2 ^ k % 2) = ap (λ (n : ℕ). n % 2) (or_shr a b k) ∙ low_or (a / 2 ^ k) (b / 2 ^ k) in
-    rw e (grind (arith, nat_tests))
+bit_at_or a b k = rw (digit_or a b k) (grind (arith, nat_tests))
 
 pub bit_zero : (k : ℕ) → bit_at 0 k ≡ false
 unfolding bit_at
-bit_zero k = rw (zero-div (2 ^ k)) refl
-
-even_pow : (d : ℕ) → 2 ^ (d + 1) % 2 ≡ 0
-even_pow d = rw (add-one, pow-suc) (omega arith)
+bit_zero k = rw (digit-zero k) refl
 
 pub bit_pow : (j k : ℕ) → bit_at (2 ^ j) k ≡ eqb k j
 unfolding bit_at
 bit_pow j k =
     elim (cases_eq k j) [
-      | inl e ↦
-          let q : 2 ^ j / 2 ^ k ≡ 1 = ap (λ (n : ℕ). 2 ^ j / 2 ^ n) e ∙ div_self (pow_pos j) in
-          ap (λ (n : ℕ). eqb (n % 2) 1) q ∙ sym (eq-eqb k j e)
-      | inr ne ↦
-          let z : 2 ^ j / 2 ^ k % 2 ≡ 0 =
-          elim (cases_lt j k) [
-            | inl l ↦ ap (λ (n : ℕ). n % 2) (div-eq_of_lt (pow_below j k l))
-            | inr g ↦
-                let s : j ≡ (j - k - 1 + 1) + k = omega arith in
-                ap (λ (n : ℕ). 2 ^ n / 2 ^ k % 2) s ∙ ap (λ (n : ℕ). n / 2 ^ k % 2) (pow-add 2 (j - k - 1 + 1) k) ∙ ap (λ (n : ℕ). n % 2) (shl-shr (2 ^ (j - k - 1 + 1)) k) ∙ even_pow (j - k - 1)
-          ] in
-          ap (λ (n : ℕ). eqb n 1) z ∙ sym (ne_eqb k j ne)
+      | inl e ↦ rw e (rw (digit-pow_same j) (sym (eq-eqb j j refl)))
+      | inr ne ↦ rw (digit-pow_other j k ne) (sym (ne_eqb k j ne))
     ]
 
 pub held_insert : (ws : List ℕ) (a x : ℕ) → a / 64 < length ws
@@ -125,12 +107,11 @@ count_same f g (suc n) h =
 
 bit_next : (n i : ℕ) → bit_at n (suc i) ≡ bit_at (n / 2) i
 unfolding bit_at
-bit_next n i =
-    ap (λ (x : ℕ). eqb (x % 2) 1) (ap (λ (k : ℕ). n / 2 ^ k) (let s : suc i ≡ 1 + i = omega arith in s) ∙ sym (shr-shr n 1 i))
+bit_next n i = ap (λ (d : ℕ). eqb d 1) (digit-suc n i)
 
 bit_first : (n : ℕ) → cond (bit_at n 0) 1 0 ≡ n % 2
 unfolding bit_at
-bit_first n = grind (arith, nat_tests)
+bit_first n = rw (digit_lowest n) (grind (arith, nat_tests))
 
 none_set : (n : ℕ) → n < 1 → ones n ≡ 0
 unfolding ones
@@ -160,11 +141,6 @@ count_word ws i h =
     let m : (64 * i + j) % 64 ≡ j = omega arith in
     ap (λ (x : ℕ). bit_at (get_or ws x 0) ((64 * i + j) % 64)) q ∙ ap (λ (x : ℕ). bit_at (get_or ws i 0) x) m)
     ∙ sym (ones_count 64 (get_or ws i 0) h))
-
--- a number past the last word is not in the row
-pub held_past : (ws : List ℕ) (k : ℕ) → length ws ≡ 8 → 512 ≤ k → held ws k ≡ false
-unfolding held
-held_past ws k n h = ap (λ (w : ℕ). bit_at w (k % 64)) (get_or_past ws (k / 64) 0 (omega arith)) ∙ bit_zero (k % 64)
 
 -- the numbers of all words
 counted_to : (ws : List ℕ) (fits : (k : ℕ) → get_or ws k 0 < 2 ^ 64) (i : ℕ) → i ≤ length ws → sum_by ones (take i ws) ≡ count_of (held ws) (64 * i)

@@ -2,15 +2,16 @@
 use Rattle.std.proofs.Common.{◌≡◌, ℕ, suc, ◌+◌, ◌<◌, ◌≤◌, Bool, true, false, cond, ◌||◌, eqb, List, [], ◌∷◌, ◌++◌, length, get_or, take, set, Some, None, Option, sym, refl, ap, ◌∙◌, subst, inl, inr, not-suc-le-zero, add-zero, zero-add, arith, lt-ltb}
 use Rattle.std.proofs.lemmas.Bool.{eq-eqb, ne_eqb, cases_eq}
 use Rattle.std.proofs.lemmas.List.{length-take-le, get_or_append_left, get_or_push, length_push, take-append-le, take_at, get_or-set_same, get_or-set_other, get_or-replicate}
+use Rattle.std.specs.Option.{option_or}
 use Rattle.trace.specs.declared.entries.Entry.{Entry}
 use Rattle.trace.specs.declared.causes.EventCauses.{EventCauses}
 use Rattle.trace.specs.Entries.{port_number_of}
-use Rattle.trace.specs.Decision.{on_port_number, or_else, last_from, last_on, last_for, send_for, at_or_before}
+use Rattle.trace.specs.Decision.{on_port_number, last_from, last_on, last_for, send_for, at_or_before}
 use Rattle.trace.specs.Invariants.{entry_at, Acceptable, Accepted, Latest, causes_at, direct_at, Caused, is_below, Acyclic, row_of, Closed}
 use Rattle.trace.specs.Messages.{same}
 use Rattle.trace.specs.Rows.{held}
 use Rattle.trace.specs.DecisionLemmas.{last_before, send_before, both_same}
-use Rattle.trace.specs.Options.{same_eq, eq_same, or_else_none, or_else_assoc}
+use Rattle.trace.specs.Options.{same_eq, eq_same, option_or-none, option_or-assoc}
 
 -- what holds of each event with those before it, where it holds of the old ones and of the new one
 module _ (P : ℕ → List Entry → Entry → Type 0) where
@@ -37,16 +38,16 @@ pub accepted_none : Accepted []
 accepted_none i h = absurd (not-suc-le-zero h)
 
 -- the last event on a port
-last_from_push : (p k : ℕ) (t : List Entry) (x : Entry) → last_from p k (t ++ x ∷ []) ≡ or_else (cond (on_port_number p x) (Some (k + length t)) None) (last_from p k t)
-last_from_push p k [] x = rw (add-zero k) (sym (or_else_none _))
+last_from_push : (p k : ℕ) (t : List Entry) (x : Entry) → last_from p k (t ++ x ∷ []) ≡ option_or (cond (on_port_number p x) (Some (k + length t)) None) (last_from p k t)
+last_from_push p k [] x = rw (add-zero k) (sym (option_or-none _))
 last_from_push p k (e ∷ t) x =
-    ap (λ (o : Option ℕ). or_else o (cond (on_port_number p e) (Some k) None))
-    (last_from_push p (suc k) t x ∙ ap (λ (n : ℕ). or_else (cond (on_port_number p x) (Some n) None) (last_from p (suc k) t)) (let s : suc k + length t ≡ k + suc (length t) = omega arith in s))
-    ∙ or_else_assoc (cond (on_port_number p x) (Some (k + suc (length t))) None) (last_from p (suc k) t) (cond (on_port_number p e) (Some k) None)
+    ap (λ (o : Option ℕ). option_or o (cond (on_port_number p e) (Some k) None))
+    (last_from_push p (suc k) t x ∙ ap (λ (n : ℕ). option_or (cond (on_port_number p x) (Some n) None) (last_from p (suc k) t)) (let s : suc k + length t ≡ k + suc (length t) = omega arith in s))
+    ∙ option_or-assoc (cond (on_port_number p x) (Some (k + suc (length t))) None) (last_from p (suc k) t) (cond (on_port_number p e) (Some k) None)
 
-last_push : (p : ℕ) (t : List Entry) (x : Entry) → last_on p (t ++ x ∷ []) ≡ or_else (cond (on_port_number p x) (Some (length t)) None) (last_on p t)
+last_push : (p : ℕ) (t : List Entry) (x : Entry) → last_on p (t ++ x ∷ []) ≡ option_or (cond (on_port_number p x) (Some (length t)) None) (last_on p t)
 unfolding last_on
-last_push p t x = last_from_push p 0 t x ∙ ap (λ (n : ℕ). or_else (cond (on_port_number p x) (Some n) None) (last_from p 0 t)) (zero-add (length t))
+last_push p t x = last_from_push p 0 t x ∙ ap (λ (n : ℕ). option_or (cond (on_port_number p x) (Some n) None) (last_from p 0 t)) (zero-add (length t))
 
 pub latest_push : (ls : List (Option ℕ)) (t : List Entry) (e : Entry) (q : ℕ) → length ls ≡ 8 → q ≡ port_number_of e → q < 8 → Latest ls t
     → Latest (set ls q (Some (length t))) (t ++ e ∷ [])
@@ -54,12 +55,12 @@ latest_push ls t e q n at low h p l =
     elim (cases_eq p q) [
       | inl s ↦
           let y : on_port_number p e ≡ true = eq-eqb (port_number_of e) p (sym at ∙ sym s) in
-          let new : last_on p (t ++ e ∷ []) ≡ Some (length t) = last_push p t e ∙ ap (λ (b : Bool). or_else (cond b (Some (length t)) None) (last_on p t)) y in
+          let new : last_on p (t ++ e ∷ []) ≡ Some (length t) = last_push p t e ∙ ap (λ (b : Bool). option_or (cond b (Some (length t)) None) (last_on p t)) y in
           let got : get_or (set ls q (Some (length t))) p None ≡ Some (length t) = ap (λ (i : ℕ). get_or (set ls q (Some (length t))) i None) s ∙ get_or-set_same ls q _ None (omega arith) in
           eq_same _ _ (got ∙ sym new)
       | inr ne ↦
           let f : on_port_number p e ≡ false = ne_eqb (port_number_of e) p (λ s. ne (sym s ∙ sym at)) in
-          let new : last_on p (t ++ e ∷ []) ≡ last_on p t = last_push p t e ∙ ap (λ (b : Bool). or_else (cond b (Some (length t)) None) (last_on p t)) f in
+          let new : last_on p (t ++ e ∷ []) ≡ last_on p t = last_push p t e ∙ ap (λ (b : Bool). option_or (cond b (Some (length t)) None) (last_on p t)) f in
           let got : get_or (set ls q (Some (length t))) p None ≡ get_or ls p None = get_or-set_other ls q p _ None ne in
           eq_same _ _ (got ∙ same_eq _ _ (h p l) ∙ sym new)
     ]
@@ -108,19 +109,10 @@ acyclic_push cs c t e n p s h =
     (subst (λ (y : EventCauses). (is_below (length t) y.direct.previous ≡ true) × (is_below (length t) y.direct.send ≡ true)) (sym (causes_new cs c (length t) n))
     (ap (is_below (length t)) p ∙ last_below t e, ap (is_below (length t)) s ∙ send_below t e))
 
-pub caused_none : (cs : List EventCauses) → Caused cs []
-caused_none cs j l = absurd (not-suc-le-zero l)
-
-pub acyclic_none : (cs : List EventCauses) → Acyclic cs []
-acyclic_none cs j l = absurd (not-suc-le-zero l)
-
 -- rows
 at_push : (cs : List EventCauses) (c : EventCauses) (o : Option ℕ) (i : ℕ) → ((k : ℕ) → o ≡ Some k → k < length cs) → at_or_before (row_of (cs ++ c ∷ [])) o i ≡ at_or_before (row_of cs) o i
 at_push cs c None i h = refl
 at_push cs c (Some k) i h = ap (λ (y : EventCauses). eqb i k || held y.row.words i) (causes_old cs c k (h k refl))
-
-pub closed_none : (cs : List EventCauses) → Closed [] (row_of cs)
-closed_none cs j l = absurd (not-suc-le-zero l)
 
 pub closed_push : (t : List Entry) (e : Entry) (cs : List EventCauses) (c : EventCauses) (p s : Option ℕ) → length cs ≡ length t → p ≡ last_for t e → s ≡ send_for t e → Closed t (row_of cs)
     → ((i : ℕ) → held c.row.words i ≡ (at_or_before (row_of cs) p i || at_or_before (row_of cs) s i))

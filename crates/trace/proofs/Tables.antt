@@ -1,40 +1,42 @@
 -- One event more: the table of messages still agrees with the events.
-use Rattle.std.proofs.Common.{◌≡◌, ℕ, suc, ◌+◌, ◌<◌, Bool, true, false, cond, eqb, List, [], ◌∷◌, ◌++◌, length, set, replicate, is_some, Some, None, Option, sym, refl, ap, ◌∙◌, subst, inl, inr, add-zero, zero-add, arith}
+use Rattle.std.proofs.Common.{◌≡◌, ℕ, ◌<◌, Bool, true, false, cond, not, eqb, List, [], ◌∷◌, ◌++◌, length, set, replicate, is_some, Some, None, Option, sym, refl, ap, ◌∙◌, subst, inl, inr, arith}
 use Rattle.std.proofs.lemmas.Bool.{eq-eqb, ne_eqb, cases_eq, cases_Bool}
 use Rattle.std.proofs.lemmas.Bool.Decides.{nat_tests}
-use Rattle.std.proofs.lemmas.List.{get_or-set_same, get_or-set_other, get_or-replicate}
+use Rattle.std.proofs.lemmas.List.{get_or-set_same, get_or-set_other, get_or-replicate, length_push}
+use Rattle.std.proofs.lemmas.List.Folds.{position_or_len_push}
+use Rattle.std.proofs.lemmas.List.Sums.{prefix_len-le-length}
+use Rattle.std.specs.List.{position}
+use Rattle.std.specs.Option.{option_or}
 use Rattle.clock.specs.Refusals.{lowest}
 use Rattle.trace.specs.declared.entries.Entry.{Entry}
 use Rattle.trace.specs.declared.entries.Entry.TheVariants.{Local, Send, Receipt}
 use Rattle.trace.specs.declared.messages.MessageRecord.{MessageRecord}
 use Rattle.trace.specs.Entries.{sends, receives, message_number}
-use Rattle.trace.specs.Adding.{first_from, sender_of, receiver_of, event_conditions}
-use Rattle.trace.specs.Decision.{or_else, send_for}
+use Rattle.trace.specs.Adding.{sender_of, receiver_of, event_conditions}
+use Rattle.trace.specs.Decision.{send_for}
 use Rattle.trace.specs.Messages.{unused, record_at, same, Agrees, send_conditions, receipt_conditions, note_conditions, noted, sent_by}
-use Rattle.trace.specs.Options.{none_of, same_eq, eq_same, or_else_none}
+use Rattle.trace.specs.Options.{none_of, same_eq, eq_same, option_or-none}
 
-first_push : (test : Entry → Bool) (k : ℕ) (t : List Entry) (x : Entry)
-    → first_from test k (t ++ x ∷ []) ≡ or_else (first_from test k t) (cond (test x) (Some (k + length t)) None)
-first_push test k [] x = rw add-zero
-first_push test k (e ∷ t) x =
-    elim (test e) as (λ b. cond b (Some k) (first_from test (suc k) (t ++ x ∷ [])) ≡ or_else (cond b (Some k) (first_from test (suc k) t)) (cond (test x) (Some (k + suc (length t))) None)) [
-      | true ↦ refl
-      | false ↦ first_push test (suc k) t x ∙ ap (λ (n : ℕ). or_else (first_from test (suc k) t) (cond (test x) (Some n) None)) (omega arith)
-    ]
+position_push : (test : Entry → Bool) (t : List Entry) (x : Entry) → position test (t ++ x ∷ []) ≡ option_or (position test t) (cond (test x) (Some (length t)) None)
+position_push test t x =
+    let p = position_or_len_push test t x in
+    let n = length_push t x in
+    let l = prefix_len-le-length (λ (e : Entry). not (test e)) t in grind (arith, nat_tests)
 
 -- the first event that passes a test stays, where the new one does not pass
-first_kept : (test : Entry → Bool) (t : List Entry) (x : Entry) (o : Option ℕ) → test x ≡ false → same o (first_from test 0 t) ≡ true
-    → same o (first_from test 0 (t ++ x ∷ [])) ≡ true
+first_kept : (test : Entry → Bool) (t : List Entry) (x : Entry) (o : Option ℕ) → test x ≡ false → same o (position test t) ≡ true
+    → same o (position test (t ++ x ∷ [])) ≡ true
 first_kept test t x o f h =
-    eq_same o _ (same_eq o _ h ∙ sym (or_else_none (first_from test 0 t)) ∙ ap (λ (b : Bool). or_else (first_from test 0 t) (cond b (Some (0 + length t)) None)) (sym f) ∙ sym (first_push test 0 t x))
+    eq_same o _
+    (same_eq o _ h ∙ sym (option_or-none (position test t)) ∙ ap (λ (b : Bool). option_or (position test t) (cond b (Some (length t)) None)) (sym f) ∙ sym (position_push test t x))
 
 -- .. and is the new one, where it is the only one that passes
-first_new : (test : Entry → Bool) (t : List Entry) (x : Entry) → test x ≡ true → first_from test 0 t ≡ None
-    → same (Some (length t)) (first_from test 0 (t ++ x ∷ [])) ≡ true
+first_new : (test : Entry → Bool) (t : List Entry) (x : Entry) → test x ≡ true → position test t ≡ None
+    → same (Some (length t)) (position test (t ++ x ∷ [])) ≡ true
 first_new test t x y none =
     eq_same (Some (length t)) _
-    (ap Some (sym (zero-add (length t))) ∙ ap (λ (b : Bool). or_else None (cond b (Some (0 + length t)) None)) (sym y)
-    ∙ ap (λ (o : Option ℕ). or_else o (cond (test x) (Some (0 + length t)) None)) (sym none) ∙ sym (first_push test 0 t x))
+    (ap (λ (b : Bool). option_or None (cond b (Some (length t)) None)) (sym y) ∙ ap (λ (o : Option ℕ). option_or o (cond (test x) (Some (length t)) None)) (sym none)
+    ∙ sym (position_push test t x))
 
 unsent : (m : MessageRecord) → lowest 7 (send_conditions m) ≡ 0 → m.sender ≡ None
 unsent m h = none_of m.sender (elim (cases_Bool (is_some m.sender)) [ inl y ↦ grind (arith, nat_tests) | inr f ↦ f ])

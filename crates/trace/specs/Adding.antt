@@ -1,5 +1,6 @@
 -- Adding entries to a trace. A trace is the list of the entries accepted so far: event i is the entry at place i. Assumes nothing.
-use Rattle.std.specs.Prelude.{◌≡◌, ℕ, suc, Bool, false, cond, not, List, [], ◌∷◌, ◌++◌, map, length, take, is_some, Some, None, Ok, Err, Option, Result, ◌==◌, nat_le}
+use Rattle.std.specs.Prelude.{◌≡◌, ℕ, Bool, false, cond, not, List, [], ◌∷◌, ◌++◌, map, length, take, is_some, Ok, Err, Option, Result, ◌==◌, nat_le}
+use Rattle.std.specs.List.{position}
 use Rattle.clock.specs.declared.refusals.Refusal.{Refusal}
 use Rattle.clock.specs.Refusals.{refusal_number, lowest}
 use Rattle.trace.specs.declared.entries.Entry.{Entry}
@@ -8,18 +9,13 @@ use Rattle.trace.specs.declared.added.Added.{Added}
 use Rattle.trace.specs.Entries.{sends, receives}
 use Rattle.trace.specs.Forms.{form, entry_of, kind_byte, size_of, byte_conditions}
 
--- the place of the first entry that passes a test, counted from k
-abbrev pub first_from : (Entry → Bool) → ℕ → List Entry → Option ℕ
-first_from test k [] = None
-first_from test k (e ∷ es) = cond (test e) (Some k) (first_from test (suc k) es)
-
--- the event that sent the message n
+-- the event that sent the message n: the first that sends it
 unfoldable pub sender_of : ℕ → List Entry → Option ℕ
-sender_of n t = first_from (sends n) 0 t
+sender_of n t = position (sends n) t
 
--- the event that received the message n
+-- the event that received the message n: the first that receives it
 unfoldable pub receiver_of : ℕ → List Entry → Option ℕ
-receiver_of n t = first_from (receives n) 0 t
+receiver_of n t = position (receives n) t
 
 -- the entry sends a message that was sent before
 abbrev pub sent_before : List Entry → Entry → Bool

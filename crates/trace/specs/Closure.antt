@@ -1,13 +1,17 @@
 -- Rows that hold the direct causes of each event and what is in their rows hold exactly what happened before it.
-use Rattle.std.specs.Prelude.{◌≡◌, ℕ, zero, suc, ◌<◌, Bool, true, false, ◌⊎◌, List, [], ◌∷◌, length, take, is_some, Some, None, Option, ◌==◌, ◌≢◌}
+use Rattle.std.specs.Prelude.{◌≡◌, ℕ, zero, suc, ◌<◌, Bool, true, false, ◌⊎◌, List, length, take, cond, is_some, Some, None, Option, ◌==◌, ◌≢◌}
 use Rattle.std.proofs.Math.Path.{refl, sym, subst}
-use Rattle.std.proofs.Common.{ap, ◌∙◌, zero-add, not-suc-le-zero, arith}
+use Rattle.std.proofs.Common.{ap, ◌∙◌, zero-add, not-suc-le-zero, lt-ltb, arith}
 use Rattle.std.proofs.Math.Logic.{inl, inr}
 use borrow.Author.Tests.{clash}
-use Rattle.std.proofs.lemmas.Bool.{eqb-true, eq-eqb, cases_order, cases_Bool, or_cases, or_left, or_right}
+use Rattle.std.proofs.lemmas.Bool.{eqb-true, eq-eqb, cases_order, cases_Bool, cases_lt, or_cases, or_left, or_right}
 use Rattle.std.proofs.lemmas.Bool.Decides.{nat_tests}
 use Rattle.std.proofs.lemmas.List.{length-take-le, get_or-take}
-use Rattle.std.proofs.lemmas.Option.{slice_get-get_or}
+use Rattle.std.proofs.lemmas.List.Quantifiers.{position-Some}
+use Rattle.std.proofs.lemmas.List.Sums.{fails_before_first}
+use Rattle.std.proofs.lemmas.Option.{none-some, same_Some, slice_get-get_or, slice_get_within, get_or_from_slice_get}
+use Rattle.std.specs.List.{position_or_len}
+use Rattle.clock.specs.declared.ports.Port.TheVariants.{P0}
 use Rattle.clock.specs.Ports.{port_number}
 use Rattle.clock.specs.Refusals.{lowest}
 use Rattle.clock.proofs.Numbers.{port_same}
@@ -18,14 +22,12 @@ use Rattle.trace.specs.Adding.{sender_of, event_conditions}
 use Rattle.trace.specs.HappenedBefore.{Event, SamePort, SentTo, PortCause, MessageCause, HappenedBefore, on_port, by_message, through}
 use Rattle.trace.specs.Decision.{on_port_number, last_on, last_for, send_for, at_or_before}
 use Rattle.trace.specs.Invariants.{entry_at, Accepted, Closed}
-use Rattle.trace.specs.Options.{not_none, some_same, some_of, none_of}
-use Rattle.trace.specs.Places.{first_some, first_found, last_none, last_some, IsLast}
+use Rattle.trace.specs.Options.{some_of, none_of}
+use Rattle.trace.specs.Places.{last_none, last_some, IsLast}
 
 -- an event is the entry at its place
 pub event_at : (t : List Entry) (i : ℕ) (e : Entry) → Event t i e → (i < length t) × (entry_at t i ≡ e)
-event_at [] i e h = not_none (sym h)
-event_at (x ∷ t) zero e h = (omega arith, cc)
-event_at (x ∷ t) (suc i) e h = let r = event_at t i e h in ((let l = r.0 in omega arith), r.1)
+event_at t i e h = (slice_get_within t i e h, get_or_from_slice_get t i e (Local P0) h)
 
 at_event : (t : List Entry) (i : ℕ) → i < length t → Event t i (entry_at t i)
 at_event t i l = slice_get-get_or t i _ l
@@ -76,18 +78,19 @@ send_fresh t (Send p m) n h r =
 
 pub sender_some : (t : List Entry) (n c : ℕ) → sender_of n t ≡ Some c → (c < length t) × (sends n (entry_at t c) ≡ true)
 unfolding sender_of
-sender_some t n c h =
-    let r = first_some (sends n) 0 c t h in
-    let e : c ≡ r.0 = r.1 ∙ zero-add r.0 in
-    (subst (λ (i : ℕ). i < length t) (sym e) r.2, subst (λ (i : ℕ). sends n (entry_at t i) ≡ true) (sym e) r.3)
+sender_some t n c h = let r = position-Some (sends n) t c (Local P0) h in (r.0, r.1)
 
 sender_found : (t : List Entry) (n i : ℕ) → i < length t → sends n (entry_at t i) ≡ true → sender_of n t ≢ None
 unfolding sender_of
-sender_found t n i l h none = first_found (sends n) 0 i t l h none
+sender_found t n i l h none =
+    elim (cases_lt (position_or_len (sends n) t) (length t)) [
+      | inl k ↦ none-some _ (sym none ∙ ap (λ (b : Bool). cond b (Some (position_or_len (sends n) t)) None) (lt-ltb _ _ k))
+      | inr g ↦ clash (sym (fails_before_first (sends n) t i (Local P0) (omega arith)) ∙ h)
+    ]
 
 send_of : (t : List Entry) (e : Entry) (c : ℕ) → send_for t e ≡ Some c → (n : ℕ) × (receives n e ≡ true) × (sender_of n t ≡ Some c)
-send_of t (Local p) c h = not_none (sym h)
-send_of t (Send p m) c h = not_none (sym h)
+send_of t (Local p) c h = absurd (none-some _ h)
+send_of t (Send p m) c h = absurd (none-some _ h)
 send_of t (Receipt p m) c h = (m, eq-eqb m m refl, h)
 
 pub last_of : (p : ℕ) (t : List Entry) (c : ℕ) → last_on p t ≡ Some c → IsLast p 0 c t
@@ -187,14 +190,14 @@ module _ (t : List Entry) (acc : Accepted t) where
   -- the send of what j receives, as a relation
   pub is_message_cause : (j : ℕ) (o : Option ℕ) → j < length t → send_for (take j t) (entry_at t j) ≡ o → MessageCause t j o
   is_message_cause j None l h = λ i s.
-      let w = carried t i j s in not_none (sym (send_cause w.message i j w.from l w.sent w.received) ∙ h)
+      let w = carried t i j s in none-some i (sym h ∙ send_cause w.message i j w.from l w.sent w.received)
   is_message_cause j (Some c) l h =
       let s = send_of (take j t) (entry_at t j) c h in
       let r = send_lower j c s.0 l s.2 in
       let q = r.0 in (
         q,
         sent_at t c j s.0 (omega arith) l r.1 s.1,
-        (λ i z. let w = carried t i j z in some_same (sym (send_cause w.message i j w.from l w.sent w.received) ∙ h)),
+        (λ i z. let w = carried t i j z in same_Some i c (sym (send_cause w.message i j w.from l w.sent w.received) ∙ h)),
       )
 
   module _ (row : ℕ → ℕ → Bool) (steps : Closed t row) where
@@ -208,9 +211,9 @@ module _ (t : List Entry) (acc : Accepted t) where
 
     under_from : (o : Option ℕ) (a c : ℕ) → o ≡ Some c → In a c → at_or_before row o a ≡ true
     unfolding In
-    under_from None a c e i = not_none (sym e)
-    under_from (Some d) a c e (inl q) = or_left _ _ (eq-eqb a d (q ∙ sym (some_same e)))
-    under_from (Some d) a c e (inr r) = or_right (a == d) _ (ap (λ (k : ℕ). row k a) (some_same e) ∙ r)
+    under_from None a c e i = absurd (none-some _ e)
+    under_from (Some d) a c e (inl q) = or_left _ _ (eq-eqb a d (q ∙ sym (same_Some _ _ e)))
+    under_from (Some d) a c e (inr r) = or_right (a == d) _ (ap (λ (k : ℕ). row k a) (same_Some _ _ e) ∙ r)
 
     to_row : (a b c : ℕ) → b < length t → Cause c b → In a c → row b a ≡ true
     unfolding Cause

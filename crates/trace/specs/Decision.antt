@@ -1,23 +1,20 @@
 -- Direct causes as values, and a decision of happened-before that can be computed. Assumes nothing.
 use Rattle.std.specs.Prelude.{ℕ, zero, suc, Bool, false, cond, ◌||◌, List, [], ◌∷◌, take, Some, None, Option, ◌==◌}
 use Rattle.std.specs.List.{slice_get}
+use Rattle.std.specs.Option.{option_or}
 use Rattle.trace.specs.declared.entries.Entry.{Entry}
 use Rattle.trace.specs.declared.entries.Entry.TheVariants.{Local, Send, Receipt}
 use Rattle.trace.specs.Entries.{port_number_of}
 use Rattle.trace.specs.Adding.{sender_of}
 
 -- The direct causes as values, from the events that came earlier.
-abbrev pub or_else : Option ℕ → Option ℕ → Option ℕ
-or_else (Some a) b = Some a
-or_else None b = b
-
 abbrev pub on_port_number : ℕ → Entry → Bool
 on_port_number p e = port_number_of e == p
 
 -- the place of the last entry on a port, counted from k
 abbrev pub last_from : ℕ → ℕ → List Entry → Option ℕ
 last_from p k [] = None
-last_from p k (e ∷ es) = or_else (last_from p (suc k) es) (cond (on_port_number p e) (Some k) None)
+last_from p k (e ∷ es) = option_or (last_from p (suc k) es) (cond (on_port_number p e) (Some k) None)
 
 -- the last event on the port of number p
 unfoldable pub last_on : ℕ → List Entry → Option ℕ

@@ -7,7 +7,7 @@ use borrow.Author.Tests.{clash}
 use Rattle.std.proofs.lemmas.Bool.{cases_Bool, cases_lt}
 use Rattle.std.proofs.lemmas.Bool.Decides.{same_from_decides}
 use Rattle.std.proofs.lemmas.List.{length-take}
-use Rattle.std.proofs.lemmas.Option.{slice_get-get_or, slice_get_past}
+use Rattle.std.proofs.lemmas.Option.{none-some, slice_get-get_or, slice_get_past}
 use Rattle.std.specs.List.{slice_get}
 use Rattle.clock.specs.Orders.{Lawful}
 use Rattle.trace.specs.declared.entries.Entry.{Entry}
@@ -17,7 +17,6 @@ use Rattle.trace.specs.HappenedBefore.{HappenedBefore, through}
 use Rattle.trace.specs.Decision.{last_for, send_for, cause_by, port_cause, message_cause, at_or_before, leads_back, happened}
 use Rattle.trace.specs.Causality.{Causal}
 use Rattle.trace.specs.Invariants.{entry_at, Accepted, Closed}
-use Rattle.trace.specs.Options.{not_none}
 use Rattle.trace.specs.Closure.{last_of, sender_some, before_lower, row_exact, row_complete}
 
 -- a direct cause comes from the events before
@@ -25,8 +24,8 @@ pub last_before : (past : List Entry) (e : Entry) (c : ℕ) → last_for past e 
 last_before past e c h = let r = last_of (port_number_of e) past c h in let x = r.at in let y = r.within in omega arith
 
 pub send_before : (past : List Entry) (e : Entry) (c : ℕ) → send_for past e ≡ Some c → c < length past
-send_before past (Local p) c h = not_none (sym h)
-send_before past (Send p n) c h = not_none (sym h)
+send_before past (Local p) c h = absurd (none-some _ h)
+send_before past (Send p n) c h = absurd (none-some _ h)
 send_before past (Receipt p n) c h = (sender_some past n c h).0
 
 pub both_same : {a b c d : Bool} → a ≡ b → c ≡ d → (a || c) ≡ (b || d)
@@ -35,7 +34,7 @@ both_same p q = cc
 module _ (t : List Entry) where
   lower : (cause : List Entry → Entry → Option ℕ) → ((past : List Entry) (e : Entry) (c : ℕ) → cause past e ≡ Some c → c < length past)
       → (j : ℕ) (o : Option Entry) (c : ℕ) → cause_by cause (take j t) o ≡ Some c → c < j
-  lower cause before j None c h = not_none (sym h)
+  lower cause before j None c h = absurd (none-some _ h)
   lower cause before j (Some e) c h = let l = before (take j t) e c h in let m = length-take j t in omega arith
 
   at_same : (f g : ℕ → ℕ → Bool) (o : Option ℕ) (i : ℕ) → ((c : ℕ) → o ≡ Some c → f c i ≡ g c i) → at_or_before f o i ≡ at_or_before g o i

@@ -1,5 +1,6 @@
 -- The table of messages: the sending and the receiving event of each number. Assumes nothing.
-use Rattle.std.specs.Prelude.{◌≡◌, ℕ, ◌<◌, Bool, true, false, not, List, [], ◌∷◌, is_some, Some, None, Ok, Err, Option, Result, ◌==◌, slice_index_or, slice_set}
+use Rattle.std.specs.Prelude.{◌≡◌, ℕ, ◌<◌, Bool, true, false, not, List, [], ◌∷◌, is_some, Some, None, Ok, Err, Option, Result, nat_eq, slice_index_or, slice_set}
+use Rattle.std.specs.Option.{option_eq}
 use Rattle.clock.specs.declared.refusals.Refusal.{Refusal}
 use Rattle.clock.specs.Refusals.{refusal_number, lowest}
 use Rattle.trace.specs.declared.entries.Entry.{Entry}
@@ -16,10 +17,7 @@ record_at rs n = slice_index_or rs n unused
 
 -- whether two events that may be absent are the same
 abbrev pub same : Option ℕ → Option ℕ → Bool
-same None None = true
-same None (Some b) = false
-same (Some a) None = false
-same (Some a) (Some b) = a == b
+same a b = option_eq nat_eq a b
 
 -- the table agrees with the events: each record has the sender and the receiver of its message
 abbrev pub Agrees : List MessageRecord → List Entry → Type 0

@@ -1,16 +1,10 @@
 -- Events that may be absent.
 use Rattle.std.specs.Prelude.{◌≡◌, ℕ, true, false, is_some, Some, None, Option, refl}
-use Rattle.std.proofs.Common.{sym, ap, subst, arith}
+use Rattle.std.proofs.Common.{sym, ap, subst}
 use borrow.Author.Tests.{clash}
 use Rattle.std.proofs.lemmas.Bool.{eqb-true, eq-eqb}
-use Rattle.trace.specs.Decision.{or_else}
+use Rattle.std.specs.Option.{option_or}
 use Rattle.trace.specs.Messages.{same}
-
-pub not_none : {A X : Type 0} {a : A} → ◌≡◌ {A = Option A} (Some a) None → X
-not_none {A} {X} {a} e = let z : ◌≡◌ {A = ℕ} 0 1 = cc in absurd (let b : ⊥ = omega arith in b)
-
-pub some_same : {a b : ℕ} → ◌≡◌ {A = Option ℕ} (Some a) (Some b) → a ≡ b
-some_same e = cc
 
 pub some_of : (o : Option ℕ) → is_some o ≡ true → (c : ℕ) × (o ≡ Some c)
 some_of (Some c) h = (c, refl)
@@ -33,10 +27,10 @@ same_refl (Some a) = eq-eqb a a refl
 pub eq_same : (a b : Option ℕ) → a ≡ b → same a b ≡ true
 eq_same a b e = subst (λ (x : Option ℕ). same a x ≡ true) e (same_refl a)
 
-pub or_else_none : (a : Option ℕ) → or_else a None ≡ a
-or_else_none None = refl
-or_else_none (Some a) = refl
+pub option_or-none : (a : Option ℕ) → option_or a None ≡ a
+option_or-none None = refl
+option_or-none (Some a) = refl
 
-pub or_else_assoc : (x y z : Option ℕ) → or_else (or_else x y) z ≡ or_else x (or_else y z)
-or_else_assoc None y z = refl
-or_else_assoc (Some a) y z = refl
+pub option_or-assoc : (x y z : Option ℕ) → option_or (option_or x y) z ≡ option_or x (option_or y z)
+option_or-assoc None y z = refl
+option_or-assoc (Some a) y z = refl

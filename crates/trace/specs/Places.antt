@@ -1,39 +1,20 @@
--- What the first and the last place of a kind of entry say.
+-- What the last place of an entry on a port says.
 use Rattle.std.specs.Prelude.{◌≡◌, ℕ, zero, suc, ◌+◌, ◌<◌, Bool, true, false, cond, List, [], ◌∷◌, length, Some, None, Option, ◌≢◌, refl}
 use Rattle.std.proofs.Common.{sym, ◌∙◌, add-zero, not-suc-le-zero, le_of_suc-le-suc, arith}
 use borrow.Author.Tests.{clash}
 use Rattle.trace.specs.declared.entries.Entry.{Entry}
-use Rattle.trace.specs.Adding.{first_from}
-use Rattle.trace.specs.Decision.{last_from, or_else, on_port_number}
+use Rattle.trace.specs.Decision.{last_from, on_port_number}
 use Rattle.trace.specs.Invariants.{entry_at}
-use Rattle.trace.specs.Options.{not_none, some_same}
-
--- a first place has an entry that passes
-pub first_some : (t : Entry → Bool) (k c : ℕ) (es : List Entry) → first_from t k es ≡ Some c → (i : ℕ) × (c ≡ k + i) × (i < length es) × (t (entry_at es i) ≡ true)
-first_some t k c [] h = not_none (sym h)
-first_some t k c (e ∷ es) h = go (first_some t (suc k) c es) (t e) refl h
-  where
-    go : (first_from t (suc k) es ≡ Some c → (i : ℕ) × (c ≡ suc k + i) × (i < length es) × (t (entry_at es i) ≡ true)) → (b : Bool) → t e ≡ b → cond b (Some k) (first_from t (suc k) es) ≡ Some c → (i : ℕ) × (c ≡ k + i) × (i < suc (length es)) × (t (entry_at (e ∷ es) i) ≡ true)
-    go rec true q g = (0, sym (some_same g) ∙ sym (add-zero k), omega arith, q)
-    go rec false q g = let r = rec g in (suc r.0, (let x = r.1 in omega arith), (let y = r.2 in omega arith), r.3)
-
--- where an entry passes, there is a first place
-pub first_found : (t : Entry → Bool) (k i : ℕ) (es : List Entry) → i < length es → t (entry_at es i) ≡ true → first_from t k es ≢ None
-first_found t k i [] l h n = not-suc-le-zero l
-first_found t k i (e ∷ es) l h n = go (λ j. first_found t (suc k) j es) (t e) refl i l h n
-  where
-    go : ((j : ℕ) → j < length es → t (entry_at es j) ≡ true → first_from t (suc k) es ≢ None) → (b : Bool) → t e ≡ b → (i : ℕ) → i < suc (length es) → t (entry_at (e ∷ es) i) ≡ true → cond b (Some k) (first_from t (suc k) es) ≢ None
-    go rec true q i l h n = not_none n
-    go rec false q zero l h n = clash (sym q ∙ h)
-    go rec false q (suc i) l h n = rec i (le_of_suc-le-suc l) h n
+use Rattle.std.proofs.lemmas.Option.{none-some, same_Some}
+use Rattle.std.specs.Option.{option_or}
 
 pub last_none : (p k i : ℕ) (es : List Entry) → i < length es → on_port_number p (entry_at es i) ≡ true → last_from p k es ≢ None
 last_none p k i [] l h n = not-suc-le-zero l
 last_none p k i (e ∷ es) l h n = go (λ j. last_none p (suc k) j es) (last_from p (suc k) es) refl (on_port_number p e) refl i l h n
   where
-    go : ((j : ℕ) → j < length es → on_port_number p (entry_at es j) ≡ true → last_from p (suc k) es ≢ None) → (o : Option ℕ) → last_from p (suc k) es ≡ o → (b : Bool) → on_port_number p e ≡ b → (i : ℕ) → i < suc (length es) → on_port_number p (entry_at (e ∷ es) i) ≡ true → or_else o (cond b (Some k) None) ≢ None
-    go rec (Some c) r b q i l h n = not_none n
-    go rec None r true q i l h n = not_none n
+    go : ((j : ℕ) → j < length es → on_port_number p (entry_at es j) ≡ true → last_from p (suc k) es ≢ None) → (o : Option ℕ) → last_from p (suc k) es ≡ o → (b : Bool) → on_port_number p e ≡ b → (i : ℕ) → i < suc (length es) → on_port_number p (entry_at (e ∷ es) i) ≡ true → option_or o (cond b (Some k) None) ≢ None
+    go rec (Some c) r b q i l h n = none-some _ (sym n)
+    go rec None r true q i l h n = none-some _ (sym n)
     go rec None r false q zero l h n = clash (sym q ∙ h)
     go rec None r false q (suc i) l h n = rec i (le_of_suc-le-suc l) h r
 
@@ -45,7 +26,7 @@ pub record IsLast (p k c : ℕ) (es : List Entry) : Type 0 where
   pub latest : (j : ℕ) → place < j → j < length es → on_port_number p (entry_at es j) ≢ true
 
 pub last_some : (p k c : ℕ) (es : List Entry) → last_from p k es ≡ Some c → IsLast p k c es
-last_some p k c [] h = not_none (sym h)
+last_some p k c [] h = absurd (none-some _ h)
 last_some p k c (e ∷ es) h = go (last_some p (suc k) c es) (last_from p (suc k) es) refl (on_port_number p e) refl h
   where
     after : last_from p (suc k) es ≡ None → (j : ℕ) → 0 < j → j < suc (length es) → on_port_number p (entry_at (e ∷ es) j) ≢ true
@@ -59,7 +40,7 @@ last_some p k c (e ∷ es) h = go (last_some p (suc k) c es) (last_from p (suc k
         later zero l m h = not-suc-le-zero l
         later (suc j) l m h = r.latest j (le_of_suc-le-suc l) (le_of_suc-le-suc m) h
 
-    go : (last_from p (suc k) es ≡ Some c → IsLast p (suc k) c es) → (o : Option ℕ) → last_from p (suc k) es ≡ o → (b : Bool) → on_port_number p e ≡ b → or_else o (cond b (Some k) None) ≡ Some c → IsLast p k c (e ∷ es)
+    go : (last_from p (suc k) es ≡ Some c → IsLast p (suc k) c es) → (o : Option ℕ) → last_from p (suc k) es ≡ o → (b : Bool) → on_port_number p e ≡ b → option_or o (cond b (Some k) None) ≡ Some c → IsLast p k c (e ∷ es)
     go rec (Some d) r b q g = more (rec (r ∙ g))
-    go rec None r true q g = record { place = 0; at = sym (some_same g) ∙ sym (add-zero k); within = omega arith; there = q; latest = after r }
-    go rec None r false q g = not_none (sym g)
+    go rec None r true q g = record { place = 0; at = sym (same_Some _ _ g) ∙ sym (add-zero k); within = omega arith; there = q; latest = after r }
+    go rec None r false q g = absurd (none-some _ g)
