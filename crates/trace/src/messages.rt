@@ -1,7 +1,7 @@
-ghost use Rattle.std.specs.Prelude.{◌≡◌, ◌<◌, replicate, IfOk, vec_len, slice_index_or};
+ghost use Rattle.std.specs.Prelude.{◌≡◌, ◌<◌, replicate, IfOk, vec_len};
 ghost use Rattle.std.specs.Borrow.{sem};
 ghost use Rattle.trace.specs.Entries.{message_number};
-ghost use Rattle.trace.specs.Messages.{unused, Noted, SendNoted, ReceiptNoted};
+ghost use Rattle.trace.specs.Messages.{unused, record_at, Noted, SendNoted, ReceiptNoted};
 
 use crate::MESSAGE_NUMBERS;
 use crate::entries::Entry;
@@ -67,7 +67,7 @@ impl MessageTable {
     fn record_mut(&mut self, n: u16) -> &mut MessageRecord
         requires { n < 512 }
         ensures* lent { sem 𝓛 (LendsRecord self.entry n result) }
-        ensures value { result.now ≡ slice_index_or self.old.records.items n result.now }
+        ensures value { result.now ≡ record_at self.old.records.items n }
     {
         &mut self.records[usize::from(n)]
     }

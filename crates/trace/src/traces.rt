@@ -25,7 +25,6 @@ pub struct Trace {
     ghost causes_room: { 512 ≤ vec_capacity causes },
     ghost few: { vec_len entries ≤ 512 },
     ghost even: { vec_len causes ≡ vec_len entries },
-    ghost ports: { length latest ≡ 8 },
     ghost accepted: { Accepted entries.items },
     ghost agrees: { Agrees messages.records.items entries.items },
     ghost lasts: { Latest latest entries.items },

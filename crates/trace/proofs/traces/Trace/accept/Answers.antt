@@ -77,8 +77,9 @@ invariant_of-self-2-clause-lasts c =
     let t = vec_items self.entries in
     let n = c.from-port.result in
     let f = found self c.args.entry _ _ _ _ c.port.ensures c.number.ensures.value c.number.ensures.bound c.from-port.ensures c.requires c.in_ok-send.ensures.1 in
+    let ports : length self.latest ≡ 8 = search rules in
     let count : length t ≡ c.len-count.result = search rules in
-    subst₂ (λ (k : ℕ) xs. Latest (set self.latest n (Some k)) xs) count (sym c.push_reserved-2.ensures.items) (latest_push self.latest t c.args.entry n self.ports f.place f.low self.lasts)
+    subst₂ (λ (k : ℕ) xs. Latest (set self.latest n (Some k)) xs) count (sym c.push_reserved-2.ensures.items) (latest_push self.latest t c.args.entry n ports f.place f.low self.lasts)
 
 pub invariant_of-self-2-clause-caused : goal.invariant_of-self-2-clause-caused
 invariant_of-self-2-clause-caused c =
