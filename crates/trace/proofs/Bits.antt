@@ -156,21 +156,13 @@ unfolding count_of
 count_words ws n fits =
     ap (sum_by ones) (sym (take_all 8 ws (omega arith))) ∙ counted_to ws fits 8 (omega arith)
 
--- at most all of them pass
-members_few : (f : ℕ → Bool) (n : ℕ) → length (members f n) ≤ n
-unfolding members
-members_few f zero = omega arith
-members_few f (suc n) =
-    let r = members_few f n in
-    let e = length-append (members f n) (cond (f n) (n ∷ []) []) in
-    let o : length (cond (f n) (n ∷ []) []) ≤ 1 = elim (f n) as (λ b. length (cond b (n ∷ []) []) ≤ 1) [ true ↦ omega arith | false ↦ omega arith ] in
-    omega arith
+count_few : (f : ℕ → Bool) (n : ℕ) → count_of f n ≤ n
+count_few f zero = omega (arith, count_none f)
+count_few f (suc n) = let r = count_few f n in let m = count_more f n in grind (arith, nat_tests)
 
 pub count_words_few : (ws : List ℕ) → length ws ≡ 8 → ((k : ℕ) → get_or ws k 0 < 2 ^ 64) → sum_by ones ws < 2 ^ 32
-count_words_few ws n fits =
-    let e = count_words ws n fits in
-    let f = members_few (held ws) 512 in
-    omega arith
+unfolding count_of
+count_words_few ws n fits = omega (arith, count_words ws n fits, count_few (held ws) 512)
 
 -- the elements that `array::from_fn` makes by a closure that changes nothing
 module _ {F : Type 0} {g : Mut F (ℕ × Unit {0}) ℕ} {f : F} (h : ℕ → ℕ) (ys : List ℕ) (top : ℕ) (calls : (i y : ℕ) (q : F) → i < top → Called g f (i, tt) y q → (q ≡ f) × (y ≡ h i)) where

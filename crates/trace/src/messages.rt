@@ -9,14 +9,14 @@ use clock::Refusal;
 use std::alloc::{AllocError, Global};
 
 // The events that sent and received one message.
-#[derive(Clone, Copy)]
+#[derive(Clone, Copy, Default)]
 pub(crate) struct MessageRecord {
     sender: Option<u16>,
     receiver: Option<u16>,
 }
 
 impl MessageRecord {
-    // Notes that the event sends the message.
+    // Notes that the event sends the message, or refuses it and changes nothing: one has sent it.
     fn note_send(&mut self, event: u16) -> Result<(), Refusal>
         ensures { SendNoted self.old self.new event result }
     {
@@ -27,7 +27,8 @@ impl MessageRecord {
         Ok(())
     }
 
-    // Notes that the event receives the message, and answers the event that sent it.
+    // Notes that the event receives the message, and answers the event that sent it; or refuses it and changes nothing: none
+    // has sent it, or one has received it.
     fn note_receipt(&mut self, event: u16) -> Result<u16, Refusal>
         ensures { ReceiptNoted self.old self.new event result }
     {
@@ -56,10 +57,7 @@ impl MessageTable {
     pub(crate) fn new(heap: Global) -> Result<MessageTable, AllocError>
         ensures { IfOk result (λ t. t.records.items ≡ replicate 512 unused) }
     {
-        let records = vec![in heap; MessageRecord {
-            sender: None,
-            receiver: None
-        }; usize::from(MESSAGE_NUMBERS)]?;
+        let records = vec![in heap; MessageRecord::default(); usize::from(MESSAGE_NUMBERS)]?;
         Ok(MessageTable { records })
     }
 

@@ -49,8 +49,8 @@ impl CauseRow {
     }
 }
 
-// How many events are in the row of these words. It is given the slice, since of the elements of a slice that is passed a
-// proof knows that each fits in 64 bits, and of those of a field that is borrowed it does not.
+// How many events are in the row of these words. A function of the slice, since a proof knows that each element of a slice
+// that is passed fits in 64 bits, and does not know it of a field that is borrowed.
 fn count_held(words: &[u64]) -> u32
     requires { length words.now ≡ 8 }
     ensures { result ≡ length (members (held words.now) 512) }
