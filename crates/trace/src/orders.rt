@@ -2,7 +2,7 @@ ghost use Rattle.std.specs.Prelude.{◌≡◌, Decides};
 ghost use Rattle.trace.specs.HappenedBefore.{HappenedBefore};
 ghost use Rattle.trace.specs.Decision.{happened};
 ghost use Rattle.trace.specs.Of.{events_of};
-ghost use Rattle.trace.specs.DecisionLemmas.{lawful};
+ghost use Rattle.trace.specs.DecisionLemmas;
 
 use crate::traces::Trace;
 use clock::Order;
@@ -13,7 +13,7 @@ impl Order for Trace {
 
     ghost precedes = { λ t. happened (events_of t) };
 
-    ghost lawful = { λ o. lawful (events_of o) o.accepted };
+    ghost lawful = { λ o. DecisionLemmas.lawful (events_of o) o.accepted };
 
     fn before(&self, a: &u16, b: &u16) -> bool
         ensures value { result ≡ happened (events_of self.now) a.now b.now }
