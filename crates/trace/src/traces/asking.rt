@@ -30,14 +30,14 @@ impl Trace {
         Ok(self.causes_of(b)?.row.has(a))
     }
 
-    // The direct causes of an event.
+    // The direct causes of an event; a number that is no event's is refused.
     pub fn direct_causes(&self, event: u16) -> Result<DirectCauses, Refusal>
         ensures { DirectAnswer (events_of self.now) event result }
     {
         Ok(self.causes_of(event)?.direct)
     }
 
-    // All events that happened before an event.
+    // All events that happened before an event; a number that is no event's is refused.
     pub fn causes(&self, event: u16) -> Result<CauseRow, Refusal>
         ensures { CausesAnswer (events_of self.now) event result }
     {
