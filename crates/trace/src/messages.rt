@@ -47,7 +47,6 @@ impl MessageRecord {
 #[derive(Drop)]
 pub(crate) struct MessageTable {
     records: Vec<MessageRecord>,
-    ghost numbers: { vec_len records ≡ 512 },
 }
 
 impl MessageTable {
@@ -63,7 +62,7 @@ impl MessageTable {
 
     // Lends the record of message n.
     fn record_mut(&mut self, n: u16) -> &mut MessageRecord
-        requires { n < 512 }
+        requires { n < vec_len self.old.records }
         ensures* lent { sem 𝓛 (LendsRecord self.entry n result) }
         ensures value { result.now ≡ record_at self.old.records.items n }
     {
@@ -72,7 +71,7 @@ impl MessageTable {
 
     // Notes the entry of a new event, and answers the event that sent what it receives, if it is a receipt.
     pub(crate) fn note(&mut self, entry: Entry, event: u16) -> Result<Option<u16>, Refusal>
-        requires { message_number entry < 512 }
+        requires { message_number entry < vec_len self.old.records }
         ensures { Noted self.old.records.items self.new.records.items entry event result }
     {
         match entry {

@@ -25,6 +25,7 @@ pub struct Trace {
     ghost causes_room: { 512 ≤ vec_capacity causes },
     ghost few: { vec_len entries ≤ 512 },
     ghost even: { vec_len causes ≡ vec_len entries },
+    ghost numbers: { vec_len messages.records ≡ 512 },
     ghost accepted: { Accepted entries.items },
     ghost agrees: { Agrees messages.records.items entries.items },
     ghost lasts: { Latest latest entries.items },
