@@ -1,8 +1,6 @@
 -- Ports and refusals are told apart by their numbers.
-use Rattle.std.proofs.Common.{rules, Decides, ◌≡◌, ◌<◌, false, eqb, sym, refl, ap, ◌∙◌, arith}
+use Rattle.std.proofs.Common.{◌≡◌, ◌<◌, false, eqb, sym, refl, ap, ◌∙◌, arith}
 use Rattle.std.proofs.lemmas.Bool.{eqb-false}
-use denote.Enum.Bare.{sameb}
-use Rattle.clock.specs.contracts.ports.Port.{the_type}
 use Rattle.clock.specs.declared.ports.Port.{Port}
 use Rattle.clock.specs.declared.ports.Port.TheVariants.{P0, P1, P2, P3, P4, P5, P6, P7}
 use Rattle.clock.specs.declared.refusals.Refusal.{Refusal}
@@ -22,10 +20,6 @@ port_back P7 = refl
 
 pub port_same : (p q : Port) → port_number p ≡ port_number q → p ≡ q
 port_same p q e = sym (port_back p) ∙ ap port_at e ∙ port_back q
-
--- `==` on ports
-pub port_decides : (p q : Port) → Decides (sameb the_type p q) (p ≡ q)
-port_decides p q = (λ e. search rules, λ e. search rules)
 
 pub port_low : (p : Port) → port_number p < 8
 port_low P0 = omega arith

@@ -38,7 +38,7 @@ impl TryFrom<u8> for Port {
 }
 
 impl Port {
-    // The port's number, 0 to 7.
+    // The port's number, 0 to 7. A method and no `From`: `usize::from(u8::from(port))`, at an index, would be no plainer.
     pub fn number(self) -> u8
         ensures value { result ≡ port_number self }
         ensures bound { result < 8 }

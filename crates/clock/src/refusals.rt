@@ -39,7 +39,7 @@ pub enum Refusal {
 }
 
 impl Refusal {
-    // The number by which the refusal is known.
+    // The number by which the refusal is known. A method and no `From`: `u8::from(refusal)` would not say which number.
     pub fn number(self) -> u8
         ensures { result ≡ refusal_number self }
     {

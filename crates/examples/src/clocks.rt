@@ -4,7 +4,7 @@ use clock::{Clock, Combination, Order, Port, Refusal};
 use lamport::{KLamport, KLamportStamp};
 use std::process::Abort;
 use std::test::Fail;
-use vectors::{FULL_VECTOR, REV, RevStamp, VectorStamp};
+use vectors::{FullVector, Rev, RevStamp, VectorStamp};
 
 // A stamp without room: a step of it, a take by it and a take of it are refused, and the stamps stay as they were.
 fn stays<C: Clock>(rt: &impl Abort, clock: &C, without_room: C::Item, started: C::Item) {
@@ -31,44 +31,47 @@ fn the_largest_entry_takes_the_room(rt: HostRuntime) -> Result<(), Fail> {
         port: Port::P0,
         entries: [0, 255, 0, 0],
     };
-    stays(&rt, &REV, without_room, REV.start(0)?);
+    let rev = Rev::new();
+    stays(&rt, &rev, without_room, rev.start(0)?);
     Ok(())
 }
 
 #[test]
 fn the_strict_entry_is_that_of_the_later_port(rt: HostRuntime) -> Result<(), Fail> {
-    let mut local = REV.start(1)?;
-    REV.step(&mut local)?;
-    let mut send = REV.start(2)?;
-    REV.step(&mut send)?;
-    let mut receipt = REV.start(5)?;
-    REV.take(&mut receipt, &send)?;
+    let rev = Rev::new();
+    let mut local = rev.start(1)?;
+    rev.step(&mut local)?;
+    let mut send = rev.start(2)?;
+    rev.step(&mut send)?;
+    let mut receipt = rev.start(5)?;
+    rev.take(&mut receipt, &send)?;
     let expected = RevStamp {
         port: Port::P5,
         entries: [0, 1, 1, 0],
     };
-    assert!(rt; REV.same(&receipt, &expected));
-    assert!(rt; REV.before(&send, &receipt));
-    unordered(&rt, &REV, local, receipt);
+    assert!(rt; rev.same(&receipt, &expected));
+    assert!(rt; rev.before(&send, &receipt));
+    unordered(&rt, &rev, local, receipt);
     Ok(())
 }
 
 #[test]
 fn a_full_vector_tells_concurrent_events(rt: HostRuntime) -> Result<(), Fail> {
-    let mut send = FULL_VECTOR.start(5)?;
-    FULL_VECTOR.step(&mut send)?;
-    FULL_VECTOR.step(&mut send)?;
-    let mut receipt = FULL_VECTOR.start(2)?;
-    FULL_VECTOR.take(&mut receipt, &send)?;
+    let vector = FullVector::new();
+    let mut send = vector.start(5)?;
+    vector.step(&mut send)?;
+    vector.step(&mut send)?;
+    let mut receipt = vector.start(2)?;
+    vector.take(&mut receipt, &send)?;
     let expected = VectorStamp {
         port: Port::P2,
         entries: [0, 0, 1, 0, 0, 2, 0, 0],
     };
-    assert!(rt; FULL_VECTOR.same(&receipt, &expected));
-    assert!(rt; FULL_VECTOR.before(&send, &receipt));
-    let mut local = FULL_VECTOR.start(1)?;
-    FULL_VECTOR.step(&mut local)?;
-    unordered(&rt, &FULL_VECTOR, local, receipt);
+    assert!(rt; vector.same(&receipt, &expected));
+    assert!(rt; vector.before(&send, &receipt));
+    let mut local = vector.start(1)?;
+    vector.step(&mut local)?;
+    unordered(&rt, &vector, local, receipt);
     Ok(())
 }
 
@@ -123,9 +126,9 @@ fn a_relay_over_three_ports_reaches_the_last_entry(rt: HostRuntime) -> Result<()
 #[test]
 fn nothing_moves_where_an_inner_part_has_no_room(rt: HostRuntime) -> Result<(), Fail> {
     let clock = Combination {
-        left: FULL_VECTOR,
+        left: FullVector::new(),
         right: Combination {
-            left: REV,
+            left: Rev::new(),
             right: KLamport,
         },
     };
@@ -148,12 +151,15 @@ fn nothing_moves_where_an_inner_part_has_no_room(rt: HostRuntime) -> Result<(), 
 #[test]
 fn no_clock_starts_above_port_7(rt: HostRuntime) {
     let clock = Combination {
-        left: REV,
+        left: Rev::new(),
         right: KLamport,
     };
     assert!(rt; clock.start(7).is_ok());
     assert_eq!(rt; clock.start(8).err(), Some(Refusal::PortTooHigh));
-    assert_eq!(rt; FULL_VECTOR.start(255).err(), Some(Refusal::PortTooHigh));
+    assert_eq!(rt;
+        FullVector::new().start(255).err(),
+        Some(Refusal::PortTooHigh)
+    );
 }
 
 #[test]
@@ -162,7 +168,7 @@ fn a_clock_from_outside_combines(rt: HostRuntime) -> Result<(), Fail> {
     let scalar = Scalar::new(255).expect(&rt, "a ceiling of 255");
     let clock = Combination {
         left: scalar,
-        right: REV,
+        right: Rev::new(),
     };
     let mut stamp = clock.start(6)?;
     clock.step(&mut stamp)?;

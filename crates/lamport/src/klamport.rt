@@ -4,7 +4,8 @@ ghost use Rattle.lamport.specs.Laws.{lamport_lawful, lamport_meaning};
 
 use clock::{Clock, Order, Port, Refusal};
 
-// A stamp of the K-Lamport clock with its entries L0, L1 and L2. One made by hand may have entries that rise.
+// A stamp of the K-Lamport clock with its entries L0, L1 and L2. One made by hand may have entries that rise. Each clock
+// has a type of stamp of its own, so this is no case of a generic one.
 #[derive(Clone, Copy, PartialEq, Eq, Debug)]
 pub struct KLamportStamp {
     pub port: Port,

@@ -10,22 +10,19 @@ use Rattle.vectors.specs.Entries.{zeros, one_more, entries_before, entries_room,
 abbrev pub owned : ℕ → Port → ℕ
 owned n p = port_number p % n
 
--- n entries up to a ceiling; `value` is the number that an entry holds, and `of` the entry that holds a number
-module _ {Counter : Type 0} (value : Counter → ℕ) (of : ℕ → Counter) (ceiling n : ℕ) where
-  abbrev pub entries_of : EntriesStamp Counter n → List ℕ
-  entries_of s = map value s.entries
+-- Of n entries: `value` is the number that an entry holds, and `of` the entry that holds a number.
 
-  abbrev pub stamp_of : Port → List ℕ → EntriesStamp Counter n
-  stamp_of p e = record { port = p; entries = map of e }
+abbrev pub clock_before : {Counter : Type 0} → (Counter → ℕ) → (n : ℕ) → EntriesStamp Counter n → EntriesStamp Counter n → Bool
+clock_before value n a b = entries_before n (owned n b.port) (map value a.entries) (map value b.entries)
 
-  abbrev pub clock_before : EntriesStamp Counter n → EntriesStamp Counter n → Bool
-  clock_before a b = entries_before n (owned n b.port) (entries_of a) (entries_of b)
+abbrev pub stamp_of : {Counter : Type 0} → (ℕ → Counter) → (n : ℕ) → Port → List ℕ → EntriesStamp Counter n
+stamp_of of n p e = record { port = p; entries = map of e }
 
-  abbrev pub clock_answers : Answers (EntriesStamp Counter n)
-  clock_answers = record {
-    port_of = λ s. s.port;
-    room = λ s. entries_room n ceiling (entries_of s);
-    start = λ p. stamp_of p (zeros n);
-    step = λ s. stamp_of s.port (one_more n (owned n s.port) (entries_of s));
-    take = λ s m. stamp_of s.port (entries_take n (owned n s.port) (entries_of s) (entries_of m));
-  }
+abbrev pub clock_answers : {Counter : Type 0} → (Counter → ℕ) → (ℕ → Counter) → (ceiling n : ℕ) → Answers (EntriesStamp Counter n)
+clock_answers value of ceiling n = record {
+  port_of = λ s. s.port;
+  room = λ s. entries_room n ceiling (map value s.entries);
+  start = λ p. stamp_of of n p (zeros n);
+  step = λ s. stamp_of of n s.port (one_more n (owned n s.port) (map value s.entries));
+  take = λ s m. stamp_of of n s.port (entries_take n (owned n s.port) (map value s.entries) (map value m.entries));
+}

@@ -55,11 +55,6 @@ largest_within zero e c h = omega arith
 largest_within (suc n) e c h =
     let x = h n (omega arith) in let y = largest_within n e c (λ k l. h k (omega arith)) in omega arith
 
-pub largest_same : (n : ℕ) (e f : List ℕ) → ((k : ℕ) → k < n → slice_index e k ≡ slice_index f k) → largest n e ≡ largest n f
-unfolding largest
-largest_same zero e f h = refl
-largest_same (suc n) e f h = omega (arith, h n (omega arith), largest_same n e f (λ k l. h k (omega arith)))
-
 -- the entries of what is made
 
 pub entry_zeros : (n k : ℕ) → k < n → slice_index (zeros n) k ≡ 0
@@ -101,9 +96,6 @@ one_more_set n own e h l =
 pub record GreaterBelow (i : ℕ) (a b t : List ℕ) : Type 0 where
   pub done : (k : ℕ) → k < i → slice_index t k ≡ max (slice_index a k) (slice_index b k)
   pub kept : (k : ℕ) → i ≤ k → slice_index t k ≡ slice_index a k
-
-pub greater_none : (a b : List ℕ) → GreaterBelow 0 a b a
-greater_none a b = record { done = λ k h. absurd (omega arith); kept = λ k h. refl }
 
 pub greater_next : (i v : ℕ) (a b t : List ℕ) → i < length t → v ≡ max (slice_index t i) (slice_index b i) → GreaterBelow i a b t → GreaterBelow (i + 1) a b (slice_set t i v)
 greater_next i v a b t l new h = record {

@@ -2,3 +2,4 @@ pub mod Entries
 pub mod EntriesClocks
 pub mod EntriesClocksLemmas
 pub mod EntryLaws
+pub mod Vectors

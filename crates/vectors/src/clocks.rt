@@ -1,6 +1,7 @@
 ghost use Rattle.std.specs.Prelude.{◌≡◌, ◌+◌, ◌<◌, map};
 ghost use Rattle.vectors.specs.Entries.{largest, one_more};
 ghost use Rattle.vectors.specs.EntriesClocks.{owned, clock_before, clock_answers};
+ghost use Rattle.vectors.specs.Vectors.{full_before, full_answers, rev_before, rev_answers};
 ghost use Rattle.vectors.specs.EntriesClocksLemmas.{clock_lawful, clock_meaning};
 
 use crate::counters::Counter;
@@ -25,20 +26,40 @@ struct Count<const R: usize> {
 // The full vector clock: 8 entries of 16 bits, one for each port.
 pub type FullVector = EntriesVector<u16, 8>;
 
-pub const FULL_VECTOR: FullVector = EntriesVector {
-    counter: PhantomData,
-    count: Count {},
-};
+impl FullVector {
+    // The clock, and what its order and its answers are.
+    pub fn new() -> FullVector
+        ensures order { ⟦<FullVector as Order>⟧.precedes result ≡ full_before }
+        ensures answers { ⟦<FullVector as Clock>⟧.answers result ≡ full_answers }
+    {
+        EntriesVector::sharing()
+    }
+}
 
 // The R-entries vector clock: 4 entries of 8 bits.
 pub type Rev = EntriesVector<u8, 4>;
 
-pub const REV: Rev = EntriesVector {
-    counter: PhantomData,
-    count: Count {},
-};
+impl Rev {
+    // The clock, and what its order and its answers are.
+    pub fn new() -> Rev
+        ensures order { ⟦<Rev as Order>⟧.precedes result ≡ rev_before }
+        ensures answers { ⟦<Rev as Clock>⟧.answers result ≡ rev_answers }
+    {
+        EntriesVector::sharing()
+    }
+}
 
 impl<C: Counter, const R: usize> EntriesVector<C, R> {
+    // The clock in which the ports share R entries.
+    fn sharing() -> EntriesVector<C, R>
+        requires { 0 < R }
+    {
+        EntriesVector {
+            counter: PhantomData,
+            count: Count {},
+        }
+    }
+
     // The entry that the port owns.
     fn owned(&self, port: Port) -> usize
         ensures value { result ≡ owned R port }
@@ -61,7 +82,7 @@ impl<C: Counter, const R: usize> EntriesVector<C, R> {
 impl<C: Counter, const R: usize> Order for EntriesVector<C, R> {
     type Item = EntriesStamp<C, R>;
 
-    ghost precedes = { λ _. clock_before C.value C.of C.CEILING R };
+    ghost precedes = { λ _. clock_before C.value R };
 
     ghost lawful = { λ c. clock_lawful C.value C.of C.CEILING R c.count.some };
 

@@ -1,7 +1,8 @@
 ghost use Rattle.std.specs.Prelude.{◌≡◌, ℕ, ◌+◌, ◌≤◌, min, Decides, refl};
 ghost use Rattle.std.proofs.Common.{rules};
 
-// What an entry of a stamp is: a number of a fixed width, from 0 to a ceiling of at least 255.
+// An entry of a stamp: it holds a number, and raising it stops at a ceiling of at least 255. Numbers of 8 and of 16 bits
+// are such entries; the trait has no name outside the crate, so there are no others.
 pub trait Counter: Copy + Eq {
     ghost CEILING: { ℕ };
 
@@ -19,7 +20,7 @@ pub trait Counter: Copy + Eq {
     fn get(self) -> u16
         ensures { result ≡ value self };
 
-    // The counter that holds 1 more, or the ceiling where there is none.
+    // The counter that holds 1 more, but at most the ceiling.
     fn next(self) -> Self
         ensures { result ≡ of (min (value self + 1) CEILING) };
 
@@ -39,7 +40,7 @@ impl Counter for u8 {
 
     ghost of = { λ n. n };
 
-    const CEILING: u16 = 255;
+    const CEILING: u16 = u8::MAX as u16;
 
     fn zero() -> u8 {
         0

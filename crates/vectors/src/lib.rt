@@ -6,6 +6,5 @@ mod counters;
 mod entries;
 mod stamps;
 
-pub use clocks::{EntriesVector, FULL_VECTOR, FullVector, REV, Rev};
-pub use counters::Counter;
+pub use clocks::{EntriesVector, FullVector, Rev};
 pub use stamps::{EntriesStamp, RevStamp, VectorStamp};

@@ -1,10 +1,7 @@
 use Rattle.std.proofs.Common.{◌+◌, map, ap, ◌∙◌, subst, sym, arith}
 use Rattle.std.proofs.lemmas.List.{get_or-map, map-set, length-map, length-set}
-use Rattle.vectors.specs.EntryLaws.{GreaterBelow, greater_none, greater_next, greater_all}
+use Rattle.vectors.specs.EntryLaws.{GreaterBelow, greater_next, greater_all}
 use Rattle.vectors.proofs.entries.raise.Goals as goal
-
-pub loop-k-init : goal.loop-k-init
-loop-k-init g c = (c.told-e, greater_none _ _)
 
 pub loop-k-preserved : goal.loop-k-preserved
 loop-k-preserved g c =

@@ -1,12 +1,8 @@
-use Rattle.std.proofs.Common.{ap₂, refl}
+use Rattle.std.proofs.Common.{rules, refl}
 use Rattle.std.proofs.lemmas.Slice.Eq.{slice_eq-Decides}
-use Rattle.clock.specs.declared.ports.Port.{Port}
-use Rattle.clock.proofs.Numbers.{port_decides}
-use Rattle.clock.proofs.Stamps.{same_decides}
 use Rattle.vectors.proofs.clocks.EntriesVectorClock.same.Goals as goal
 
 pub returns : goal.returns
 returns g c =
-    let a = c.args.a.now in
-    let b = c.args.b.now in
-    same_decides (λ s. s.port) (λ s. s.entries) a b c.eq.result c.eq.ensures (port_decides a.port b.port) (slice_eq-Decides g.met.C.Counter.identical a.entries b.entries _ refl) (ap₂ (λ (p : Port) e. record { port = p; entries = e }))
+    let entries = slice_eq-Decides g.met.C.Counter.identical c.args.a.now.entries c.args.b.now.entries _ refl in
+    search (rules, entries)

@@ -19,10 +19,10 @@ returns g c =
     let s = c.args.s.now in
     let m = c.args.m.now in
     let made = c.advance.ensures.entries ∙ ap (one_more n (owned n s.port)) c.raise.ensures in
-    let next = made_of counter.value counter.of counter.CEILING n g.met.C.Counter.of_value c.advance.new.s s.port _ c.advance.ensures.port made in
+    let next = made_of counter.value counter.of n g.met.C.Counter.of_value c.advance.new.s s.port _ c.advance.ensures.port made in
     let meaning = clock_meaning counter.value counter.of counter.CEILING n c.args.self.now.count.some g.met.C.Counter.value_of g.met.C.Counter.floor in
     record {
       moved = (omega arith, omega arith, next);
-      later = ap (clock_before counter.value counter.of counter.CEILING n s) next ∙ meaning.take_before s m (omega arith) (omega arith);
-      follows = ap (clock_before counter.value counter.of counter.CEILING n m) next ∙ meaning.take_after s m (omega arith) (omega arith);
+      later = ap (clock_before counter.value n s) next ∙ meaning.take_before s m (omega arith) (omega arith);
+      follows = ap (clock_before counter.value n m) next ∙ meaning.take_after s m (omega arith) (omega arith);
     }
