@@ -13,7 +13,7 @@ mod asking;
 // trace is made, so adding never wants any.
 #[derive(Drop)]
 pub struct Trace {
-    // the accepted entries
+    // the accepted entries, in a vector of their own since `events` lends them as a slice
     entries: Vec<Entry>,
     // the causes of each event
     causes: Vec<EventCauses>,
