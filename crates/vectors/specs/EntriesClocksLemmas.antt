@@ -1,88 +1,64 @@
 -- Every clock of entries keeps the meaning of a clock.
-use Rattle.std.specs.Prelude.{◌≡◌, ℕ, zero, suc, ◌+◌, ◌<◌, ◌≤◌, max, true, List, [], ◌∷◌, map, replicate, slice_index}
-use Rattle.std.specs.List.{range_with_len}
-use Rattle.std.proofs.Common.{refl, sym, ap, ap₂, ◌∙◌, arith}
+use Rattle.std.specs.Prelude.{◌≡◌, ℕ, ◌+◌, ◌-◌, ◌<◌, ◌≤◌, max, true, List, slice_index}
+use Rattle.std.proofs.Common.{sym, ap, ◌∙◌, arith}
 use Rattle.clock.specs.declared.ports.Port.{Port}
 use Rattle.clock.specs.Orders.{Lawful}
 use Rattle.clock.specs.Clocks.{Meaning}
-use Rattle.vectors.specs.declared.stamps.EntriesStamp.{EntriesStamp}
-use Rattle.vectors.specs.Entries.{largest, zeros, greater, one_more, entries_before, entries_room, entries_take}
-use Rattle.vectors.specs.EntriesClocks.{owned, stamp_of, clock_before, clock_answers}
-use Rattle.vectors.specs.EntryLaws.{largest_within, entry_zeros, entry_greater, own_entry, entry_rises, step_largest, take_largest, entries_after, entries_irreflexive, entries_transitive}
+use Rattle.vectors.specs.Entries.{largest, zeros, greater, one_more, entries_room, entries_take}
+use Rattle.vectors.specs.EntriesClocks.{EntriesClock, clock_before, clock_answers}
+use Rattle.vectors.specs.EntryLaws.{largest_within, largest_same, entry_zeros, entry_greater, own_entry, entry_rises, step_largest, take_largest, entries_after, entries_irreflexive, entries_transitive}
 
-owned_below : (n : ℕ) (p : Port) → 0 < n → owned n p < n
-owned_below n p some = omega arith
+-- what the choices have to keep: a stamp that is made has the port and the entries that it was made of
+pub record Sound {Stamp : Type 0} (c : EntriesClock Stamp) : Type 0 where
+  pub owned_below : (p : Port) → c.owned p < c.count
+  pub floor : 255 ≤ c.ceiling
+  pub port_back : (p : Port) (e : List ℕ) → c.port_of (c.stamp_of p e) ≡ p
+  pub entries_back : (p : Port) (e : List ℕ) (k : ℕ) → k < c.count → slice_index (c.entries_of (c.stamp_of p e)) k ≡ slice_index e k
 
--- a list of the entries that hold numbers, and the numbers that a list of entries holds
-module _ {Counter : Type 0} (value : Counter → ℕ) (of : ℕ → Counter) where
-  numbers_back : ((k : ℕ) → value (of k) ≡ k) → (e : List ℕ) → map value (map of e) ≡ e
-  numbers_back back [] = refl
-  numbers_back back (k ∷ e) = ap₂ ◌∷◌ (back k) (numbers_back back e)
-
-  entries_back : ((x : Counter) → of (value x) ≡ x) → (e : List Counter) (t : List ℕ) → map value e ≡ t → e ≡ map of t
-  entries_back back e t same = sym (list_back e) ∙ ap (map of) same
-    where
-      list_back : (e : List Counter) → map of (map value e) ≡ e
-      list_back [] = refl
-      list_back (x ∷ e) = ap₂ ◌∷◌ (back x) (list_back e)
-
--- a stamp is the one that is made of its port and of the numbers that it holds
-pub made_of : {Counter : Type 0} (value : Counter → ℕ) (of : ℕ → Counter) (n : ℕ) → ((x : Counter) → of (value x) ≡ x) → (s : EntriesStamp Counter n) (p : Port) (t : List ℕ) → s.port ≡ p → map value s.entries ≡ t → s ≡ stamp_of of n p t
-made_of value of n back s p t on held = ap₂ (λ (q : Port) e. record { port = q; entries = e }) on (entries_back value of back s.entries t held)
-
--- what a start has
-pub zeros_held : {Counter : Type 0} (of : ℕ → Counter) (n : ℕ) → replicate n (of 0) ≡ map of (zeros n)
-zeros_held of n = held n 0
-  where
-    held : (n from : ℕ) → replicate n (of 0) ≡ map of (map (λ (k : ℕ). 0) (range_with_len from n))
-    held zero from = refl
-    held (suc n) from = ap (◌∷◌ (of 0)) (held n (from + 1))
-
-module _ {Counter : Type 0} (value : Counter → ℕ) (of : ℕ → Counter) (ceiling n : ℕ) (some : 0 < n) where
-  pub clock_lawful : Lawful (clock_before value n)
+module _ {Stamp : Type 0} (l : EntriesClock Stamp) (sound : Sound l) where
+  pub clock_lawful : Lawful (clock_before l)
   clock_lawful = record {
-    irreflexive = λ a. entries_irreflexive n (owned n a.port) (map value a.entries);
-    transitive = λ a b c x y. entries_transitive n (owned n b.port) (owned n c.port) (map value a.entries) (map value b.entries) (map value c.entries) (owned_below n c.port some) x y;
+    irreflexive = λ a. entries_irreflexive l.count (l.owned (l.port_of a)) (l.entries_of a);
+    transitive = λ a b c x y. entries_transitive l.count (l.owned (l.port_of b)) (l.owned (l.port_of c)) (l.entries_of a) (l.entries_of b) (l.entries_of c) (sound.owned_below (l.port_of c)) x y;
   }
 
-  module _ (back : (k : ℕ) → value (of k) ≡ k) where
-    -- a stamp of entries t on port p is after a stamp whose entries do not exceed t's and are below in p's own
-    made_after : (a : EntriesStamp Counter n) (p : Port) (t : List ℕ) → ((k : ℕ) → k < n → slice_index (map value a.entries) k ≤ slice_index t k) → slice_index (map value a.entries) (owned n p) < slice_index t (owned n p) → clock_before value n a (stamp_of of n p t) ≡ true
-    made_after a p t all at = ap (entries_before n (owned n p) (map value a.entries)) (numbers_back value of back t) ∙ entries_after n (owned n p) (map value a.entries) t all at
+  -- a stamp of entries t on port p is after a stamp whose entries do not exceed t's and are below in p's own
+  made_after : (a : Stamp) (p : Port) (t : List ℕ) → ((k : ℕ) → k < l.count → slice_index (l.entries_of a) k ≤ slice_index t k) → slice_index (l.entries_of a) (l.owned p) < slice_index t (l.owned p) → clock_before l a (l.stamp_of p t) ≡ true
+  made_after a p t all at =
+      rw sound.port_back (entries_after l.count (l.owned p) (l.entries_of a) (l.entries_of (l.stamp_of p t))
+      (λ k h. omega (arith, all k h, sound.entries_back p t k h)) (omega (arith, at, sound.entries_back p t (l.owned p) (sound.owned_below p))))
 
-    -- a take is after each stamp whose entries the greater ones cover
-    take_covers : (a s m : EntriesStamp Counter n) → ((k : ℕ) → slice_index (map value a.entries) k ≤ max (slice_index (map value s.entries) k) (slice_index (map value m.entries) k)) → clock_before value n a ((clock_answers value of ceiling n).take s m) ≡ true
-    take_covers a s m cover =
-        let own = owned n s.port in
-        let below = owned_below n s.port some in
-        let e = map value s.entries in
-        let f = map value m.entries in
-        let g = greater n e f in
-        made_after a s.port (one_more n own g)
-        (λ k h. omega (arith, cover k, (entry_rises n own g k h).0, entry_greater n e f k h))
-        (omega (arith, cover own, own_entry n own g below, entry_greater n e f own below))
+  -- a take is after each stamp whose entries the greater ones cover
+  take_covers : (a s m : Stamp) → ((k : ℕ) → slice_index (l.entries_of a) k ≤ max (slice_index (l.entries_of s) k) (slice_index (l.entries_of m) k)) → clock_before l a ((clock_answers l).take s m) ≡ true
+  take_covers a s m cover =
+      let n = l.count in
+      let own = l.owned (l.port_of s) in
+      let g = greater n (l.entries_of s) (l.entries_of m) in
+      made_after a (l.port_of s) (one_more n own g)
+      (λ k h. omega (arith, cover k, (entry_rises n own g k h).0, entry_greater n (l.entries_of s) (l.entries_of m) k h))
+      (omega (arith, cover own, own_entry n own g (sound.owned_below (l.port_of s)), entry_greater n (l.entries_of s) (l.entries_of m) own (sound.owned_below (l.port_of s))))
 
-    -- the room of what is made
-    made_room : (p : Port) (e : List ℕ) → (clock_answers value of ceiling n).room (stamp_of of n p e) ≡ entries_room n ceiling e
-    made_room p e = ap (entries_room n ceiling) (numbers_back value of back e)
+  -- the room of what is made
+  made_room : (p : Port) (e : List ℕ) → (clock_answers l).room (l.stamp_of p e) ≡ entries_room l.count l.ceiling e
+  made_room p e = ap (λ n. l.ceiling - n) (largest_same l.count (l.entries_of (l.stamp_of p e)) e (sound.entries_back p e))
 
-    pub clock_meaning : 255 ≤ ceiling → Meaning (clock_before value n) (clock_answers value of ceiling n)
-    clock_meaning floor = record {
-      start_port = λ p. refl;
-      start_room = λ p q. refl;
-      start_floor = λ p. omega (arith, made_room p (zeros n), floor, largest_within n (zeros n) 0 (λ k h. omega (arith, entry_zeros n k h)));
-      step_before = λ s h. (
-          let own = owned n s.port in
-          let e = map value s.entries in
-          made_after s s.port (one_more n own e) (λ k j. (entry_rises n own e k j).0) (omega (arith, own_entry n own e (owned_below n s.port some))));
-      step_port = λ s h. refl;
-      step_room = λ s h. (
-          let e = one_more n (owned n s.port) (map value s.entries) in
-          omega (arith, made_room s.port e, largest_within n e (largest n (map value s.entries) + 1) (step_largest n (owned n s.port) (map value s.entries))));
-      take_before = λ s m h k. take_covers s s m (λ j. omega arith);
-      take_after = λ s m h k. take_covers m s m (λ j. omega arith);
-      take_port = λ s m h k. refl;
-      take_room = λ s m h k. (
-          let e = entries_take n (owned n s.port) (map value s.entries) (map value m.entries) in
-          omega (arith, made_room s.port e, largest_within n e (max (largest n (map value s.entries)) (largest n (map value m.entries)) + 1) (take_largest n (owned n s.port) (map value s.entries) (map value m.entries))));
-    }
+  pub clock_meaning : Meaning (clock_before l) (clock_answers l)
+  clock_meaning = record {
+    start_port = λ p. sound.port_back p (zeros l.count);
+    start_room = λ p q. made_room p (zeros l.count) ∙ sym (made_room q (zeros l.count));
+    start_floor = λ p. omega (arith, made_room p (zeros l.count), sound.floor, largest_within l.count (zeros l.count) 0 (λ k h. omega (arith, entry_zeros l.count k h)));
+    step_before = λ s h. (
+        let own = l.owned (l.port_of s) in
+        made_after s (l.port_of s) (one_more l.count own (l.entries_of s)) (λ k j. (entry_rises l.count own (l.entries_of s) k j).0)
+        (omega (arith, own_entry l.count own (l.entries_of s) (sound.owned_below (l.port_of s)))));
+    step_port = λ s h. sound.port_back _ _;
+    step_room = λ s h. (
+        let e = one_more l.count (l.owned (l.port_of s)) (l.entries_of s) in
+        omega (arith, made_room (l.port_of s) e, largest_within l.count e (largest l.count (l.entries_of s) + 1) (step_largest l.count (l.owned (l.port_of s)) (l.entries_of s))));
+    take_before = λ s m h k. take_covers s s m (λ j. omega arith);
+    take_after = λ s m h k. take_covers m s m (λ j. omega arith);
+    take_port = λ s m h k. sound.port_back _ _;
+    take_room = λ s m h k. (
+        let e = entries_take l.count (l.owned (l.port_of s)) (l.entries_of s) (l.entries_of m) in
+        omega (arith, made_room (l.port_of s) e, largest_within l.count e (max (largest l.count (l.entries_of s)) (largest l.count (l.entries_of m)) + 1) (take_largest l.count (l.owned (l.port_of s)) (l.entries_of s) (l.entries_of m))));
+  }

@@ -55,6 +55,11 @@ largest_within zero e c h = omega arith
 largest_within (suc n) e c h =
     let x = h n (omega arith) in let y = largest_within n e c (λ k l. h k (omega arith)) in omega arith
 
+pub largest_same : (n : ℕ) (e f : List ℕ) → ((k : ℕ) → k < n → slice_index e k ≡ slice_index f k) → largest n e ≡ largest n f
+unfolding largest
+largest_same zero e f h = refl
+largest_same (suc n) e f h = omega (arith, h n (omega arith), largest_same n e f (λ k l. h k (omega arith)))
+
 -- the entries of what is made
 
 pub entry_zeros : (n k : ℕ) → k < n → slice_index (zeros n) k ≡ 0

@@ -3,3 +3,4 @@ pub mod EntriesClocks
 pub mod EntriesClocksLemmas
 pub mod EntryLaws
 pub mod Vectors
+pub mod VectorsLemmas

@@ -1,35 +1,44 @@
--- The full vector and the R-entries vector, whose entries are numbers. Assumes nothing.
-use Rattle.std.specs.Prelude.{ℕ, ◌%◌, Bool}
+-- The full vector and the R-entries vector, and every clock of their kind. Assumes nothing.
+use Rattle.std.specs.Prelude.{ℕ, ◌%◌, map}
 use Rattle.clock.specs.declared.ports.Port.{Port}
 use Rattle.clock.specs.Ports.{port_number}
-use Rattle.clock.specs.Clocks.{Answers}
 use Rattle.vectors.specs.declared.stamps.EntriesStamp.{EntriesStamp}
-use Rattle.vectors.specs.Entries.{zeros, one_more, entries_before, entries_room, entries_take}
-
--- n entries, of which a port owns entry `own`
-abbrev pub vector_before : (n : ℕ) → (Port → ℕ) → EntriesStamp ℕ n → EntriesStamp ℕ n → Bool
-vector_before n own a b = entries_before n (own b.port) a.entries b.entries
-
--- .. and the ceiling of an entry
-abbrev pub vector_answers : (n ceiling : ℕ) → (Port → ℕ) → Answers (EntriesStamp ℕ n)
-vector_answers n ceiling own = record {
-  port_of = λ s. s.port;
-  room = λ s. entries_room n ceiling s.entries;
-  start = λ p. record { port = p; entries = zeros n };
-  step = λ s. record { port = s.port; entries = one_more n (own s.port) s.entries };
-  take = λ s m. record { port = s.port; entries = entries_take n (own s.port) s.entries m.entries };
-}
+use Rattle.vectors.specs.EntriesClocks.{EntriesClock}
 
 -- 8 entries up to 65,535, of which port p owns entry p
-abbrev pub full_before : EntriesStamp ℕ 8 → EntriesStamp ℕ 8 → Bool
-full_before = vector_before 8 port_number
+abbrev pub full_vector : EntriesClock (EntriesStamp ℕ 8)
+full_vector = record {
+  count = 8;
+  ceiling = 65535;
+  owned = port_number;
+  port_of = λ s. s.port;
+  entries_of = λ s. s.entries;
+  stamp_of = λ p e. record { port = p; entries = e };
+}
 
-abbrev pub full_answers : Answers (EntriesStamp ℕ 8)
-full_answers = vector_answers 8 65535 port_number
+-- the entry that a port owns where the ports share n entries
+abbrev pub shared : ℕ → Port → ℕ
+shared n p = port_number p % n
 
 -- 4 entries up to 255, of which port p owns entry p mod 4
-abbrev pub rev_before : EntriesStamp ℕ 4 → EntriesStamp ℕ 4 → Bool
-rev_before = vector_before 4 (λ p. port_number p % 4)
+abbrev pub rev : EntriesClock (EntriesStamp ℕ 4)
+rev = record {
+  count = 4;
+  ceiling = 255;
+  owned = shared 4;
+  port_of = λ s. s.port;
+  entries_of = λ s. s.entries;
+  stamp_of = λ p e. record { port = p; entries = e };
+}
 
-abbrev pub rev_answers : Answers (EntriesStamp ℕ 4)
-rev_answers = vector_answers 4 255 (λ p. port_number p % 4)
+-- n entries up to a ceiling that the ports share: `value` is the number that an entry holds, and `of` the entry that holds a
+-- number
+abbrev pub sharing : {Counter : Type 0} → (Counter → ℕ) → (ℕ → Counter) → (ceiling n : ℕ) → EntriesClock (EntriesStamp Counter n)
+sharing value of ceiling n = record {
+  count = n;
+  ceiling = ceiling;
+  owned = shared n;
+  port_of = λ s. s.port;
+  entries_of = λ s. map value s.entries;
+  stamp_of = λ p e. record { port = p; entries = map of e };
+}

@@ -1,8 +1,9 @@
 ghost use Rattle.std.specs.Prelude.{◌≡◌, ◌+◌, ◌<◌, map};
 ghost use Rattle.vectors.specs.Entries.{largest, one_more};
-ghost use Rattle.vectors.specs.EntriesClocks.{owned, clock_before, clock_answers};
-ghost use Rattle.vectors.specs.Vectors.{full_before, full_answers, rev_before, rev_answers};
+ghost use Rattle.vectors.specs.EntriesClocks.{clock_before, clock_answers};
 ghost use Rattle.vectors.specs.EntriesClocksLemmas.{clock_lawful, clock_meaning};
+ghost use Rattle.vectors.specs.Vectors.{full_vector, shared, rev, sharing};
+ghost use Rattle.vectors.specs.VectorsLemmas.{sharing_sound};
 
 use crate::counters::Counter;
 use crate::entries::{largest, none_exceeds, raise};
@@ -29,8 +30,8 @@ pub type FullVector = EntriesVector<u16, 8>;
 impl FullVector {
     // The clock, and what its order and its answers are.
     pub fn new() -> FullVector
-        ensures order { ⟦<FullVector as Order>⟧.precedes result ≡ full_before }
-        ensures answers { ⟦<FullVector as Clock>⟧.answers result ≡ full_answers }
+        ensures order { ⟦<FullVector as Order>⟧.precedes result ≡ clock_before full_vector }
+        ensures answers { ⟦<FullVector as Clock>⟧.answers result ≡ clock_answers full_vector }
     {
         EntriesVector::sharing()
     }
@@ -42,8 +43,8 @@ pub type Rev = EntriesVector<u8, 4>;
 impl Rev {
     // The clock, and what its order and its answers are.
     pub fn new() -> Rev
-        ensures order { ⟦<Rev as Order>⟧.precedes result ≡ rev_before }
-        ensures answers { ⟦<Rev as Clock>⟧.answers result ≡ rev_answers }
+        ensures order { ⟦<Rev as Order>⟧.precedes result ≡ clock_before rev }
+        ensures answers { ⟦<Rev as Clock>⟧.answers result ≡ clock_answers rev }
     {
         EntriesVector::sharing()
     }
@@ -62,7 +63,7 @@ impl<C: Counter, const R: usize> EntriesVector<C, R> {
 
     // The entry that the port owns.
     fn owned(&self, port: Port) -> usize
-        ensures value { result ≡ owned R port }
+        ensures value { result ≡ shared R port }
         ensures bound { result < R }
     {
         usize::from(port.number()) % R
@@ -72,7 +73,7 @@ impl<C: Counter, const R: usize> EntriesVector<C, R> {
     fn advance(&self, s: &mut EntriesStamp<C, R>)
         requires { largest R (map C.value s.old.entries) < C.CEILING }
         ensures port { s.new.port ≡ s.old.port }
-        ensures entries { map C.value s.new.entries ≡ one_more R (owned R s.old.port) (map C.value s.old.entries) }
+        ensures entries { map C.value s.new.entries ≡ one_more R (shared R s.old.port) (map C.value s.old.entries) }
     {
         let own = self.owned(s.port);
         s.entries[own] = s.entries[own].next();
@@ -82,9 +83,9 @@ impl<C: Counter, const R: usize> EntriesVector<C, R> {
 impl<C: Counter, const R: usize> Order for EntriesVector<C, R> {
     type Item = EntriesStamp<C, R>;
 
-    ghost precedes = { λ _. clock_before C.value R };
+    ghost precedes = { λ _. clock_before (sharing C.value C.of C.CEILING R) };
 
-    ghost lawful = { λ c. clock_lawful C.value C.of C.CEILING R c.count.some };
+    ghost lawful = { λ c. clock_lawful (sharing C.value C.of C.CEILING R) (sharing_sound C.value C.of C.CEILING R c.count.some C.floor C.value_of) };
 
     fn before(&self, a: &EntriesStamp<C, R>, b: &EntriesStamp<C, R>) -> bool {
         let own = self.owned(b.port);
@@ -93,9 +94,9 @@ impl<C: Counter, const R: usize> Order for EntriesVector<C, R> {
 }
 
 impl<C: Counter, const R: usize> Clock for EntriesVector<C, R> {
-    ghost answers = { λ _. clock_answers C.value C.of C.CEILING R };
+    ghost answers = { λ _. clock_answers (sharing C.value C.of C.CEILING R) };
 
-    ghost meaning = { λ c. clock_meaning C.value C.of C.CEILING R c.count.some C.value_of C.floor };
+    ghost meaning = { λ c. clock_meaning (sharing C.value C.of C.CEILING R) (sharing_sound C.value C.of C.CEILING R c.count.some C.floor C.value_of) };
 
     fn port(&self, s: &EntriesStamp<C, R>) -> Port {
         s.port

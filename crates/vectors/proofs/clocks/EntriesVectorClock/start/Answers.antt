@@ -1,5 +1,5 @@
 use Rattle.std.proofs.Common.{rules}
-use Rattle.vectors.specs.EntriesClocksLemmas.{zeros_held}
+use Rattle.vectors.specs.VectorsLemmas.{zeros_held}
 use Rattle.vectors.proofs.clocks.EntriesVectorClock.start.Goals as goal
 
 pub returns : goal.returns

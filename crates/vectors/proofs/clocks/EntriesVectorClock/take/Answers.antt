@@ -1,8 +1,10 @@
 use Rattle.std.proofs.Common.{map, ap, ◌∙◌, rules, arith}
 use Rattle.vectors.specs.Entries.{largest, one_more}
 use Rattle.vectors.specs.EntryLaws.{greater_within}
-use Rattle.vectors.specs.EntriesClocks.{owned, clock_before}
-use Rattle.vectors.specs.EntriesClocksLemmas.{made_of, clock_meaning}
+use Rattle.vectors.specs.EntriesClocks.{clock_before}
+use Rattle.vectors.specs.EntriesClocksLemmas.{clock_meaning}
+use Rattle.vectors.specs.Vectors.{shared, sharing}
+use Rattle.vectors.specs.VectorsLemmas.{sharing_sound, made_of}
 use Rattle.vectors.proofs.clocks.EntriesVectorClock.take.Goals as goal
 
 pub advance-requires : goal.advance-requires
@@ -15,14 +17,16 @@ advance-requires g c =
 pub returns : goal.returns
 returns g c =
     let counter = g.C.Counter in
+    let law = g.met.C.Counter in
     let n = g.row.R in
     let s = c.args.s.now in
     let m = c.args.m.now in
-    let made = c.advance.ensures.entries ∙ ap (one_more n (owned n s.port)) c.raise.ensures in
-    let next = made_of counter.value counter.of n g.met.C.Counter.of_value c.advance.new.s s.port _ c.advance.ensures.port made in
-    let meaning = clock_meaning counter.value counter.of counter.CEILING n c.args.self.now.count.some g.met.C.Counter.value_of g.met.C.Counter.floor in
+    let clock = sharing counter.value counter.of counter.CEILING n in
+    let meaning = clock_meaning clock (sharing_sound counter.value counter.of counter.CEILING n c.args.self.now.count.some law.floor law.value_of) in
+    let made = c.advance.ensures.entries ∙ ap (one_more n (shared n s.port)) c.raise.ensures in
+    let next = made_of counter.value counter.of counter.CEILING n law.of_value c.advance.new.s s.port _ c.advance.ensures.port made in
     record {
       moved = (omega arith, omega arith, next);
-      later = ap (clock_before counter.value n s) next ∙ meaning.take_before s m (omega arith) (omega arith);
-      follows = ap (clock_before counter.value n m) next ∙ meaning.take_after s m (omega arith) (omega arith);
+      later = ap (clock_before clock s) next ∙ meaning.take_before s m (omega arith) (omega arith);
+      follows = ap (clock_before clock m) next ∙ meaning.take_after s m (omega arith) (omega arith);
     }
