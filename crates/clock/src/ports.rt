@@ -38,7 +38,8 @@ impl TryFrom<u8> for Port {
 }
 
 impl Port {
-    // The port's number, 0 to 7. A method and no `From`: `usize::from(u8::from(port))`, at an index, would be no plainer.
+    // The port's number, 0 to 7. A method and no `From`: that for `u8` would read `usize::from(u8::from(port))` at an index,
+    // and that for `usize` would not tell that the number is small.
     pub fn number(self) -> u8
         ensures value { result ≡ port_number self }
         ensures bound { result < 8 }

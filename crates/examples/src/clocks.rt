@@ -181,3 +181,21 @@ fn a_clock_from_outside_combines(rt: HostRuntime) -> Result<(), Fail> {
     assert_eq!(rt; clock.room(&stamp), 254);
     Ok(())
 }
+
+// A step leaves the port, so only the entries tell the stamp from the one before it.
+fn tells_a_step<C: Clock>(rt: &impl Abort, clock: &C) -> Result<(), Fail> {
+    let started = clock.start(1)?;
+    let mut moved = started;
+    clock.step(&mut moved)?;
+    assert_eq!(rt; clock.port(&moved), clock.port(&started));
+    assert!(rt; !clock.same(&started, &moved));
+    assert!(rt; clock.same(&moved, &moved));
+    Ok(())
+}
+
+#[test]
+fn a_stamp_is_not_the_same_as_its_step(rt: HostRuntime) -> Result<(), Fail> {
+    tells_a_step(&rt, &FullVector::new())?;
+    tells_a_step(&rt, &Rev::new())?;
+    tells_a_step(&rt, &KLamport)
+}

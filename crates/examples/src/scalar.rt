@@ -6,7 +6,7 @@ ghost use Rattle.std.specs.Prelude.{◌≤◌};
 
 use clock::Port;
 
-// A stamp of the scalar clock: a type of its own, as each clock has.
+// A stamp of the scalar clock.
 #[derive(Clone, Copy, PartialEq, Eq, Debug)]
 pub struct ScalarStamp {
     pub port: Port,

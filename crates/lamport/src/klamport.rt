@@ -4,8 +4,8 @@ ghost use Rattle.lamport.specs.Laws.{lamport_lawful, lamport_meaning};
 
 use clock::{Clock, Order, Port, Refusal};
 
-// A stamp of the K-Lamport clock with its entries L0, L1 and L2. One made by hand may have entries that rise. Each clock
-// has a type of stamp of its own, so this is no case of a generic one.
+// A stamp of the K-Lamport clock with its entries L0, L1 and L2. One made by hand may have entries that rise. No port owns
+// an entry, so it is no case of the stamps whose entries the ports own.
 #[derive(Clone, Copy, PartialEq, Eq, Debug)]
 pub struct KLamportStamp {
     pub port: Port,
@@ -47,6 +47,7 @@ impl Order for KLamport {
     }
 }
 
+// The port, sameness and a start are written out for each clock's own stamps: a trait over the stamps would be longer.
 impl Clock for KLamport {
     ghost answers = { λ _. lamport_answers 3 };
 

@@ -15,7 +15,7 @@ use Rattle.std.proofs.lemmas.Bool.{eq-eqb, ne_eqb, cases_eq, cases_lt}
 use Rattle.std.proofs.lemmas.Bool.Decides.{nat_tests}
 use Rattle.trace.specs.Rows.{bit_at, held, members}
 
-pub bit_at_or : (a b k : ℕ) → bit_at (bit_or a b) k ≡ (bit_at a k || bit_at b k)
+bit_at_or : (a b k : ℕ) → bit_at (bit_or a b) k ≡ (bit_at a k || bit_at b k)
 unfolding bit_at
 bit_at_or a b k = rw (digit_or a b k) (grind (arith, nat_tests))
 
@@ -23,7 +23,7 @@ pub bit_zero : (k : ℕ) → bit_at 0 k ≡ false
 unfolding bit_at
 bit_zero k = rw (digit-zero k) refl
 
-pub bit_pow : (j k : ℕ) → bit_at (2 ^ j) k ≡ eqb k j
+bit_pow : (j k : ℕ) → bit_at (2 ^ j) k ≡ eqb k j
 unfolding bit_at
 bit_pow j k =
     elim (cases_eq k j) [
@@ -80,11 +80,11 @@ one_more : (b : Bool) (n : ℕ) → length (cond b (n ∷ []) []) ≡ cond b 1 0
 one_more true n = refl
 one_more false n = refl
 
-pub count_none : (f : ℕ → Bool) → count_of f 0 ≡ 0
+count_none : (f : ℕ → Bool) → count_of f 0 ≡ 0
 unfolding count_of members
 count_none f = refl
 
-pub count_more : (f : ℕ → Bool) (n : ℕ) → count_of f (suc n) ≡ count_of f n + cond (f n) 1 0
+count_more : (f : ℕ → Bool) (n : ℕ) → count_of f (suc n) ≡ count_of f n + cond (f n) 1 0
 unfolding count_of members
 count_more f n = length-append (members f n) (cond (f n) (n ∷ []) []) ∙ ap (λ (k : ℕ). length (members f n) + k) (one_more (f n) n)
 
@@ -129,7 +129,7 @@ ones_count (suc k) n h =
     omega (arith, r, s, f, b, t)
 
 -- the numbers of one word
-pub count_word : (ws : List ℕ) (i : ℕ) → get_or ws i 0 < 2 ^ 64 → count_of (held ws) (64 * (i + 1)) ≡ count_of (held ws) (64 * i) + ones (get_or ws i 0)
+count_word : (ws : List ℕ) (i : ℕ) → get_or ws i 0 < 2 ^ 64 → count_of (held ws) (64 * (i + 1)) ≡ count_of (held ws) (64 * i) + ones (get_or ws i 0)
 unfolding held
 count_word ws i h =
     let e : 64 * (i + 1) ≡ 64 * i + 64 = omega arith in

@@ -8,6 +8,8 @@ use Rattle.trace.specs.Entries.{port_number_of}
 use Rattle.trace.specs.Adding.{sender_of}
 
 -- The direct causes as values, from the events that came earlier.
+
+-- whether an entry is on the port of a number
 abbrev pub on_port_number : ℕ → Entry → Bool
 on_port_number p e = port_number_of e == p
 

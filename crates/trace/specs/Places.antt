@@ -2,11 +2,11 @@
 use Rattle.std.specs.Prelude.{◌≡◌, ℕ, zero, suc, ◌+◌, ◌<◌, Bool, true, false, cond, List, [], ◌∷◌, length, Some, None, Option, ◌≢◌, refl}
 use Rattle.std.proofs.Common.{sym, ◌∙◌, add-zero, not-suc-le-zero, le_of_suc-le-suc, arith}
 use borrow.Author.Tests.{clash}
+use Rattle.std.specs.Option.{option_or}
+use Rattle.std.proofs.lemmas.Option.{none-some, same_Some}
 use Rattle.trace.specs.declared.entries.Entry.{Entry}
 use Rattle.trace.specs.Decision.{last_from, on_port_number}
 use Rattle.trace.specs.Invariants.{entry_at}
-use Rattle.std.proofs.lemmas.Option.{none-some, same_Some}
-use Rattle.std.specs.Option.{option_or}
 
 pub last_none : (p k i : ℕ) (es : List Entry) → i < length es → on_port_number p (entry_at es i) ≡ true → last_from p k es ≢ None
 last_none p k i [] l h n = not-suc-le-zero l

@@ -16,7 +16,7 @@ pub(crate) struct MessageRecord {
 }
 
 impl MessageRecord {
-    // Notes that the event sends the message, or refuses it and changes nothing: one has sent it.
+    // Notes that the event sends the message; refused, with nothing changed, where an event has sent it.
     fn note_send(&mut self, event: u16) -> Result<(), Refusal>
         ensures { SendNoted self.old self.new event result }
     {
@@ -27,8 +27,8 @@ impl MessageRecord {
         Ok(())
     }
 
-    // Notes that the event receives the message, and answers the event that sent it; or refuses it and changes nothing: none
-    // has sent it, or one has received it.
+    // Notes that the event receives the message, and answers the event that sent it; refused, with nothing changed, where
+    // none has sent it or one has received it.
     fn note_receipt(&mut self, event: u16) -> Result<u16, Refusal>
         ensures { ReceiptNoted self.old self.new event result }
     {

@@ -40,6 +40,7 @@ impl Counter for u8 {
 
     ghost of = { λ n. n };
 
+    // A cast and no `From`: a constant's value calls no function.
     const CEILING: u16 = u8::MAX as u16;
 
     fn zero() -> u8 {

@@ -18,8 +18,8 @@ pub(crate) fn largest<C: Counter, const R: usize>(e: &[C; R]) -> u16
     e.iter().fold(0, |most, x| x.get().max(most))
 }
 
-// Makes each entry of e the greater of the two. It writes at the place that `enumerate` tells, since after a loop over
-// `iter_mut` a proof knows no entry.
+// Makes each entry of e the greater of the two. It writes at the place that `enumerate` tells: after a loop over `iter_mut`
+// a proof knows no entry, and `array::from_fn` would want a closure with clauses of its own.
 pub(crate) fn raise<C: Counter, const R: usize>(e: &mut [C; R], m: &[C; R])
     ensures { map C.value e.new ≡ greater R (map C.value e.old) (map C.value m.now) }
 {

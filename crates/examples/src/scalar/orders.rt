@@ -28,6 +28,7 @@ impl Order for Scalar {
     }
 }
 
+// The port, sameness and a start are written out for each clock's own stamps: a trait over the stamps would be longer.
 impl Clock for Scalar {
     ghost answers = { λ c. scalar_answers c.ceiling };
 
