@@ -4,7 +4,7 @@
 ghost use Rattle.std.specs.Prelude.{length, IfOk, Some, string_bytes};
 ghost use Rattle.trace.specs.Dumps.{refused_number};
 ghost use Rattle.trace.specs.Of.{events_of};
-ghost use Rattle.trace.specs.Rows.{held, members};
+ghost use Rattle.trace.specs.Rows.{in_row, members};
 ghost use Rattle.account.specs.Accounts.{AccountOf, first_line, entry_text, numbers_text, event_lines};
 
 use clock::Refusal;
@@ -86,7 +86,7 @@ struct Causes<'a> {
 }
 
 impl fmt::Display for Causes<'_> {
-    ghost output = { λ causes. Some (numbers_text (members (held causes.row.now.words) causes.event)) };
+    ghost output = { λ causes. Some (numbers_text (members (in_row causes.row.now) causes.event)) };
 
     #[tactic(auto, unfolding(trace::specs::Rows::members))]
     fn fmt<W: fmt::Write>(&self, f: &mut fmt::Formatter<W>) -> fmt::Result {

@@ -4,9 +4,13 @@ use Rattle.clock.specs.Clocks.{Answers}
 use Rattle.examples.specs.declared.scalar.Scalar.{Scalar}
 use Rattle.examples.specs.declared.scalar.ScalarStamp.{ScalarStamp}
 
+-- the ceiling that the clock was made with
+abbrev pub ceiling_of : Scalar → ℕ
+ceiling_of c = c.ceiling
+
 -- the answer to a ceiling
 abbrev pub MadeScalar : ℕ → Option Scalar → Type 0
-MadeScalar ceiling (Some c) = (255 ≤ ceiling) × (c.ceiling ≡ ceiling)
+MadeScalar ceiling (Some c) = (255 ≤ ceiling) × (ceiling_of c ≡ ceiling)
 MadeScalar ceiling None = ceiling < 255
 
 -- an earlier time

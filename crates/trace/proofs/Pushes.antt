@@ -9,7 +9,7 @@ use Rattle.trace.specs.Entries.{port_number_of}
 use Rattle.trace.specs.Decision.{on_port_number, last_from, last_on, last_for, send_for, at_or_before}
 use Rattle.trace.specs.Invariants.{entry_at, Acceptable, Accepted, Latest, causes_at, direct_at, Caused, is_below, Acyclic, row_of, Closed}
 use Rattle.trace.specs.Messages.{same}
-use Rattle.trace.specs.Rows.{held}
+use Rattle.trace.specs.Rows.{in_row}
 use Rattle.trace.specs.DecisionLemmas.{last_before, send_before, both_same}
 use Rattle.trace.specs.Options.{same_eq, eq_same, option_or-none, option_or-assoc}
 
@@ -112,21 +112,21 @@ acyclic_push cs c t e n p s h =
 -- rows
 at_push : (cs : List EventCauses) (c : EventCauses) (o : Option ℕ) (i : ℕ) → ((k : ℕ) → o ≡ Some k → k < length cs) → at_or_before (row_of (cs ++ c ∷ [])) o i ≡ at_or_before (row_of cs) o i
 at_push cs c None i h = refl
-at_push cs c (Some k) i h = ap (λ (y : EventCauses). eqb i k || held y.row.words i) (causes_old cs c k (h k refl))
+at_push cs c (Some k) i h = ap (λ (y : EventCauses). eqb i k || in_row y.row i) (causes_old cs c k (h k refl))
 
 pub closed_push : (t : List Entry) (e : Entry) (cs : List EventCauses) (c : EventCauses) (p s : Option ℕ) → length cs ≡ length t → p ≡ last_for t e → s ≡ send_for t e → Closed t (row_of cs)
-    → ((i : ℕ) → held c.row.words i ≡ (at_or_before (row_of cs) p i || at_or_before (row_of cs) s i))
+    → ((i : ℕ) → in_row c.row i ≡ (at_or_before (row_of cs) p i || at_or_before (row_of cs) s i))
     → Closed (t ++ e ∷ []) (row_of (cs ++ c ∷ []))
 closed_push t e cs c p s n pe se h new =
     each_push (λ j past x. (i : ℕ) → row_of (cs ++ c ∷ []) j i ≡ (at_or_before (row_of (cs ++ c ∷ [])) (last_for past x) i || at_or_before (row_of (cs ++ c ∷ [])) (send_for past x) i)) t e
     (λ j l i.
     let m = length-take-le j t (omega arith) in
-    ap (λ (y : EventCauses). held y.row.words i) (causes_old cs c j (omega arith)) ∙ h j l i
+    ap (λ (y : EventCauses). in_row y.row i) (causes_old cs c j (omega arith)) ∙ h j l i
     ∙ both_same
     (sym (at_push cs c (last_for (take j t) (entry_at t j)) i (λ k q. let b = last_before (take j t) (entry_at t j) k q in omega arith)))
     (sym (at_push cs c (send_for (take j t) (entry_at t j)) i (λ k q. let b = send_before (take j t) (entry_at t j) k q in omega arith))))
     (λ i.
-    ap (λ (y : EventCauses). held y.row.words i) (causes_new cs c (length t) n) ∙ new i
+    ap (λ (y : EventCauses). in_row y.row i) (causes_new cs c (length t) n) ∙ new i
     ∙ both_same
     (ap (λ (o : Option ℕ). at_or_before (row_of cs) o i) pe ∙ sym (at_push cs c (last_for t e) i (λ k q. let b = last_before t e k q in omega arith)))
     (ap (λ (o : Option ℕ). at_or_before (row_of cs) o i) se ∙ sym (at_push cs c (send_for t e) i (λ k q. let b = send_before t e k q in omega arith))))

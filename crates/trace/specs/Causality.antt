@@ -7,7 +7,7 @@ use Rattle.trace.specs.declared.entries.Entry.{Entry}
 use Rattle.trace.specs.declared.causes.DirectCauses.{DirectCauses}
 use Rattle.trace.specs.declared.rows.CauseRow.{CauseRow}
 use Rattle.trace.specs.Adding.{after}
-use Rattle.trace.specs.Rows.{held}
+use Rattle.trace.specs.Rows.{in_row}
 use Rattle.trace.specs.HappenedBefore.{HappenedBefore, PortCause, MessageCause}
 use Rattle.trace.specs.Decision.{happened}
 
@@ -42,8 +42,8 @@ BeforeAnswer t a b (Err f) = NoSuchEvents t a b f
 -- the answer to a question about the causes of one event
 pub record Causes (t : List Entry) (j : ℕ) (row : CauseRow) : Type 0 where
   pub event_is : j < length t
-  pub value : (i : ℕ) → held row.words i ≡ happened t i j
-  pub decides : (i : ℕ) → Decides (held row.words i) (HappenedBefore t i j)
+  pub value : (i : ℕ) → in_row row i ≡ happened t i j
+  pub decides : (i : ℕ) → Decides (in_row row i) (HappenedBefore t i j)
 
 abbrev pub CausesAnswer : List Entry → ℕ → Result CauseRow Refusal → Type 0
 CausesAnswer t j (Ok row) = Causes t j row

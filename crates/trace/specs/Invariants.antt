@@ -10,7 +10,7 @@ use Rattle.trace.specs.Entries.{message_number}
 use Rattle.trace.specs.Adding.{event_conditions}
 use Rattle.trace.specs.Decision.{last_on, last_for, send_for, at_or_before}
 use Rattle.trace.specs.Messages.{same}
-use Rattle.trace.specs.Rows.{held}
+use Rattle.trace.specs.Rows.{in_row}
 
 -- the entry of event i
 abbrev pub entry_at : List Entry → ℕ → Entry
@@ -53,7 +53,7 @@ Acyclic cs t = (j : ℕ) → j < length t → (is_below j (direct_at cs j).previ
 
 -- whether event i is in the row of event j
 abbrev pub row_of : List EventCauses → ℕ → ℕ → Bool
-row_of cs j i = held (causes_at cs j).row.words i
+row_of cs j i = in_row (causes_at cs j).row i
 
 -- the row of an event has its direct causes and what is in their rows
 abbrev pub Closed : List Entry → (ℕ → ℕ → Bool) → Type 0

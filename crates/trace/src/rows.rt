@@ -1,5 +1,5 @@
 ghost use Rattle.std.specs.Prelude.{◌≡◌, ℕ, ◌<◌, false, ◌||◌, length, ◌==◌};
-ghost use Rattle.trace.specs.Rows.{held, members};
+ghost use Rattle.trace.specs.Rows.{held, in_row, members};
 
 use std::array;
 
@@ -12,14 +12,14 @@ pub struct CauseRow {
 impl CauseRow {
     // The row of no events.
     pub(crate) fn new() -> CauseRow
-        ensures { (k : ℕ) → held result.words k ≡ false }
+        ensures { (k : ℕ) → in_row result k ≡ false }
     {
         CauseRow { words: [0; 8] }
     }
 
     // Whether the event is in the row. A number above 511 is in no row.
     pub fn has(&self, event: u16) -> bool
-        ensures { result ≡ held self.now.words event }
+        ensures { result ≡ in_row self.now event }
     {
         self.words
             .get(usize::from(event / 64))
@@ -28,7 +28,7 @@ impl CauseRow {
 
     // How many events are in the row.
     pub fn count(&self) -> u32
-        ensures { result ≡ length (members (held self.now.words) 512) }
+        ensures { result ≡ length (members (in_row self.now) 512) }
     {
         count_held(&self.words)
     }
@@ -36,14 +36,14 @@ impl CauseRow {
     // Puts one event in.
     pub(crate) fn insert(&mut self, event: u16)
         requires { event < 512 }
-        ensures { (k : ℕ) → held self.new.words k ≡ (held self.old.words k || k == event) }
+        ensures { (k : ℕ) → in_row self.new k ≡ (in_row self.old k || k == event) }
     {
         self.words[usize::from(event / 64)] |= 1u64 << (event % 64);
     }
 
     // Puts in all the events of another row.
     pub(crate) fn join(&mut self, other: &CauseRow)
-        ensures { (k : ℕ) → held self.new.words k ≡ (held self.old.words k || held other.now.words k) }
+        ensures { (k : ℕ) → in_row self.new k ≡ (in_row self.old k || in_row other.now k) }
     {
         self.words = array::from_fn(|i| self.words[i] | other.words[i]);
     }

@@ -6,7 +6,10 @@ use Rattle.clock.specs.declared.ports.Port.{Port}
 use Rattle.vectors.specs.declared.stamps.EntriesStamp.{EntriesStamp}
 use Rattle.vectors.specs.Entries.{zeros}
 use Rattle.vectors.specs.Vectors.{sharing}
-use Rattle.vectors.specs.EntriesClocksLemmas.{Sound}
+use Rattle.clock.specs.Orders.{Lawful}
+use Rattle.clock.specs.Clocks.{Meaning}
+use Rattle.vectors.specs.EntriesClocks.{clock_before, clock_answers}
+use Rattle.vectors.specs.EntriesClocksLemmas.{Sound, clock_lawful, clock_meaning}
 
 -- a list of the entries that hold numbers, and the numbers that a list of entries holds
 module _ {Counter : Type 0} (value : Counter → ℕ) (of : ℕ → Counter) where
@@ -28,6 +31,13 @@ module _ {Counter : Type 0} (value : Counter → ℕ) (of : ℕ → Counter) whe
     port_back = λ p e. refl;
     entries_back = λ p e k h. ap (λ t. slice_index t k) (numbers_back back e);
   }
+
+  module _ (ceiling n : ℕ) (some : 0 < n) (floor : 255 ≤ ceiling) (back : (k : ℕ) → value (of k) ≡ k) where
+    pub sharing_lawful : Lawful (clock_before (sharing value of ceiling n))
+    sharing_lawful = clock_lawful (sharing value of ceiling n) (sharing_sound ceiling n some floor back)
+
+    pub sharing_meaning : Meaning (clock_before (sharing value of ceiling n)) (clock_answers (sharing value of ceiling n))
+    sharing_meaning = clock_meaning (sharing value of ceiling n) (sharing_sound ceiling n some floor back)
 
   -- a stamp is the one that is made of its port and of the numbers that it holds
   pub made_of : (ceiling n : ℕ) → ((x : Counter) → of (value x) ≡ x) → (s : EntriesStamp Counter n) (p : Port) (t : List ℕ) → s.port ≡ p → map value s.entries ≡ t → s ≡ (sharing value of ceiling n).stamp_of p t

@@ -1,9 +1,8 @@
 ghost use Rattle.std.specs.Prelude.{◌≡◌, ◌+◌, ◌<◌, map};
 ghost use Rattle.vectors.specs.Entries.{largest, one_more};
 ghost use Rattle.vectors.specs.EntriesClocks.{clock_before, clock_answers};
-ghost use Rattle.vectors.specs.EntriesClocksLemmas.{clock_lawful, clock_meaning};
 ghost use Rattle.vectors.specs.Vectors.{full_vector, shared, rev, sharing};
-ghost use Rattle.vectors.specs.VectorsLemmas.{sharing_sound};
+ghost use Rattle.vectors.specs.VectorsLemmas.{sharing_lawful, sharing_meaning};
 
 use crate::counters::Counter;
 use crate::entries::{largest, none_exceeds, raise};
@@ -85,7 +84,7 @@ impl<C: Counter, const R: usize> Order for EntriesVector<C, R> {
 
     ghost precedes = { λ _. clock_before (sharing C.value C.of C.CEILING R) };
 
-    ghost lawful = { λ c. clock_lawful (sharing C.value C.of C.CEILING R) (sharing_sound C.value C.of C.CEILING R c.count.some C.floor C.value_of) };
+    ghost lawful = { λ c. sharing_lawful C.value C.of C.CEILING R c.count.some C.floor C.value_of };
 
     fn before(&self, a: &EntriesStamp<C, R>, b: &EntriesStamp<C, R>) -> bool {
         let own = self.owned(b.port);
@@ -96,7 +95,7 @@ impl<C: Counter, const R: usize> Order for EntriesVector<C, R> {
 impl<C: Counter, const R: usize> Clock for EntriesVector<C, R> {
     ghost answers = { λ _. clock_answers (sharing C.value C.of C.CEILING R) };
 
-    ghost meaning = { λ c. clock_meaning (sharing C.value C.of C.CEILING R) (sharing_sound C.value C.of C.CEILING R c.count.some C.floor C.value_of) };
+    ghost meaning = { λ c. sharing_meaning C.value C.of C.CEILING R c.count.some C.floor C.value_of };
 
     fn port(&self, s: &EntriesStamp<C, R>) -> Port {
         s.port

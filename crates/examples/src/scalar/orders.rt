@@ -1,4 +1,4 @@
-ghost use Rattle.examples.specs.Scalar.{scalar_before, scalar_answers, MadeScalar};
+ghost use Rattle.examples.specs.Scalar.{ceiling_of, scalar_before, scalar_answers, MadeScalar};
 ghost use Rattle.std.proofs.Common.{rules};
 
 use crate::scalar::{Scalar, ScalarStamp};
@@ -30,7 +30,7 @@ impl Order for Scalar {
 
 // The port, sameness and a start are written out for each clock's own stamps: a trait over the stamps would be longer.
 impl Clock for Scalar {
-    ghost answers = { λ c. scalar_answers c.ceiling };
+    ghost answers = { λ c. scalar_answers (ceiling_of c) };
 
     ghost meaning = { Prim.search rules };
 

@@ -4,7 +4,7 @@ ghost use Rattle.trace.specs.Adding.{tried, EntryAdds, Adds};
 ghost use Rattle.trace.specs.Decision.{at_or_before};
 ghost use Rattle.trace.specs.Invariants.{is_below, row_of};
 ghost use Rattle.trace.specs.Of.{events_of};
-ghost use Rattle.trace.specs.Rows.{held};
+ghost use Rattle.trace.specs.Rows.{in_row};
 
 use super::Trace;
 use crate::MOST_EVENTS;
@@ -69,7 +69,7 @@ fn row_after(causes: &[EventCauses], direct: DirectCauses) -> CauseRow
     requires previous { is_below (length causes.now) direct.previous ≡ true }
     requires send { is_below (length causes.now) direct.send ≡ true }
     requires few { length causes.now ≤ 512 }
-    ensures { (k : ℕ) → held result.words k ≡ (at_or_before (row_of causes.now) direct.previous k || at_or_before (row_of causes.now) direct.send k) }
+    ensures { (k : ℕ) → in_row result k ≡ (at_or_before (row_of causes.now) direct.previous k || at_or_before (row_of causes.now) direct.send k) }
 {
     let mut row = CauseRow::new();
     add_cause(&mut row, causes, direct.previous);
@@ -81,7 +81,7 @@ fn row_after(causes: &[EventCauses], direct: DirectCauses) -> CauseRow
 fn add_cause(row: &mut CauseRow, causes: &[EventCauses], cause: Option<u16>)
     requires cause { is_below (length causes.now) cause ≡ true }
     requires few { length causes.now ≤ 512 }
-    ensures { (k : ℕ) → held row.new.words k ≡ (held row.old.words k || at_or_before (row_of causes.now) cause k) }
+    ensures { (k : ℕ) → in_row row.new k ≡ (in_row row.old k || at_or_before (row_of causes.now) cause k) }
 {
     if let Some(event) = cause {
         row.insert(event);

@@ -8,7 +8,7 @@ use Rattle.trace.specs.declared.entries.Entry.{Entry}
 use Rattle.trace.specs.declared.traces.Trace.{Trace}
 use Rattle.trace.specs.Entries.{port_of, port_number_of, message_number}
 use Rattle.trace.specs.Decision.{last_for, send_for, at_or_before}
-use Rattle.trace.specs.Rows.{held}
+use Rattle.trace.specs.Rows.{in_row}
 use Rattle.trace.specs.Messages.{Agrees, sent_by, noted}
 use Rattle.trace.specs.Invariants.{Accepted, Latest, Caused, is_below, Acyclic, row_of, Closed}
 use Rattle.trace.proofs.Tables.{agrees_push, refusal_noted, sent_is}
@@ -99,7 +99,7 @@ pub invariant_of-self-2-clause-closed : goal.invariant_of-self-2-clause-closed
 invariant_of-self-2-clause-closed c =
     let self = c.args.self.now in
     let f = found self c.args.entry _ _ _ _ c.port.ensures c.number.ensures.value c.number.ensures.bound c.from-port.ensures c.requires c.in_ok-send.ensures.1 in
-    let Row : List EventCauses → Type 0 = λ cs. (i : ℕ) → held c.row_after-row.result.words i ≡ (at_or_before (row_of cs) (get_or self.latest c.from-port.result None) i || at_or_before (row_of cs) c.in_ok-send.send i) in
+    let Row : List EventCauses → Type 0 = λ cs. (i : ℕ) → in_row c.row_after-row.result i ≡ (at_or_before (row_of cs) (get_or self.latest c.from-port.result None) i || at_or_before (row_of cs) c.in_ok-send.send i) in
     let row : Row (vec_items self.causes) = subst Row c.deref.ensures.value c.row_after-row.ensures in
     subst₂ (λ xs ys. Closed xs (row_of ys)) (sym c.push_reserved-2.ensures.items) (sym c.push_reserved.ensures.items)
     (closed_push (vec_items self.entries) c.args.entry (vec_items self.causes) _ _ _ f.even f.previous f.send self.closed row)

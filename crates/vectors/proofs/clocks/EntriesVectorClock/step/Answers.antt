@@ -1,8 +1,7 @@
 use Rattle.std.proofs.Common.{ap, ◌∙◌, arith}
 use Rattle.vectors.specs.EntriesClocks.{clock_before}
-use Rattle.vectors.specs.EntriesClocksLemmas.{clock_meaning}
 use Rattle.vectors.specs.Vectors.{sharing}
-use Rattle.vectors.specs.VectorsLemmas.{sharing_sound, made_of}
+use Rattle.vectors.specs.VectorsLemmas.{sharing_meaning, made_of}
 use Rattle.vectors.proofs.clocks.EntriesVectorClock.step.Goals as goal
 
 pub returns : goal.returns
@@ -12,6 +11,6 @@ returns g c =
     let n = g.row.R in
     let s = c.args.s.now in
     let clock = sharing counter.value counter.of counter.CEILING n in
-    let meaning = clock_meaning clock (sharing_sound counter.value counter.of counter.CEILING n c.args.self.now.count.some law.floor law.value_of) in
+    let meaning = sharing_meaning counter.value counter.of counter.CEILING n c.args.self.now.count.some law.floor law.value_of in
     let next = made_of counter.value counter.of counter.CEILING n law.of_value c.advance.new.s s.port _ c.advance.ensures.port c.advance.ensures.entries in
     record { moved = (omega arith, next); later = ap (clock_before clock s) next ∙ meaning.step_before s (omega arith) }

@@ -2,9 +2,8 @@ use Rattle.std.proofs.Common.{map, ap, ◌∙◌, rules, arith}
 use Rattle.vectors.specs.Entries.{largest, one_more}
 use Rattle.vectors.specs.EntryLaws.{greater_within}
 use Rattle.vectors.specs.EntriesClocks.{clock_before}
-use Rattle.vectors.specs.EntriesClocksLemmas.{clock_meaning}
 use Rattle.vectors.specs.Vectors.{shared, sharing}
-use Rattle.vectors.specs.VectorsLemmas.{sharing_sound, made_of}
+use Rattle.vectors.specs.VectorsLemmas.{sharing_meaning, made_of}
 use Rattle.vectors.proofs.clocks.EntriesVectorClock.take.Goals as goal
 
 pub advance-requires : goal.advance-requires
@@ -22,7 +21,7 @@ returns g c =
     let s = c.args.s.now in
     let m = c.args.m.now in
     let clock = sharing counter.value counter.of counter.CEILING n in
-    let meaning = clock_meaning clock (sharing_sound counter.value counter.of counter.CEILING n c.args.self.now.count.some law.floor law.value_of) in
+    let meaning = sharing_meaning counter.value counter.of counter.CEILING n c.args.self.now.count.some law.floor law.value_of in
     let made = c.advance.ensures.entries ∙ ap (one_more n (shared n s.port)) c.raise.ensures in
     let next = made_of counter.value counter.of counter.CEILING n law.of_value c.advance.new.s s.port _ c.advance.ensures.port made in
     record {
