@@ -15,7 +15,7 @@ use Rattle.std.proofs.lemmas.Bool.{eq-eqb, ne_eqb, cases_eq, cases_lt}
 use Rattle.std.proofs.lemmas.Bool.Decides.{nat_tests}
 use Rattle.trace.specs.Rows.{bit_at, held, members}
 
-bit_at_or : (a b k : ℕ) → bit_at (bit_or a b) k ≡ (bit_at a k || bit_at b k)
+pub bit_at_or : (a b k : ℕ) → bit_at (bit_or a b) k ≡ (bit_at a k || bit_at b k)
 unfolding bit_at
 bit_at_or a b k = rw (digit_or a b k) (grind (arith, nat_tests))
 
@@ -23,7 +23,7 @@ pub bit_zero : (k : ℕ) → bit_at 0 k ≡ false
 unfolding bit_at
 bit_zero k = rw (digit-zero k) refl
 
-bit_pow : (j k : ℕ) → bit_at (2 ^ j) k ≡ eqb k j
+pub bit_pow : (j k : ℕ) → bit_at (2 ^ j) k ≡ eqb k j
 unfolding bit_at
 bit_pow j k =
     elim (cases_eq k j) [
@@ -51,6 +51,11 @@ held_insert ws a x l =
     or_false : (b : Bool) → (b || false) ≡ b
     or_false true = refl
     or_false false = refl
+
+-- a row has no event past its bits
+pub held_past : (ws : List ℕ) (k : ℕ) → length ws ≡ 8 → 512 ≤ k → held ws k ≡ false
+unfolding held
+held_past ws k n h = ap (λ (w : ℕ). bit_at w (k % 64)) (get_or_past ws (k / 64) 0 (omega arith)) ∙ bit_zero (k % 64)
 
 pub held_join : (ws us vs : List ℕ) → length ws ≡ 8 → length us ≡ 8 → length vs ≡ 8 → ((k : ℕ) → k < 8 → get_or vs k 0 ≡ bit_or (get_or ws k 0) (get_or us k 0)) → (x : ℕ) → held vs x ≡ (held ws x || held us x)
 unfolding held
@@ -80,11 +85,11 @@ one_more : (b : Bool) (n : ℕ) → length (cond b (n ∷ []) []) ≡ cond b 1 0
 one_more true n = refl
 one_more false n = refl
 
-count_none : (f : ℕ → Bool) → count_of f 0 ≡ 0
+pub count_none : (f : ℕ → Bool) → count_of f 0 ≡ 0
 unfolding count_of members
 count_none f = refl
 
-count_more : (f : ℕ → Bool) (n : ℕ) → count_of f (suc n) ≡ count_of f n + cond (f n) 1 0
+pub count_more : (f : ℕ → Bool) (n : ℕ) → count_of f (suc n) ≡ count_of f n + cond (f n) 1 0
 unfolding count_of members
 count_more f n = length-append (members f n) (cond (f n) (n ∷ []) []) ∙ ap (λ (k : ℕ). length (members f n) + k) (one_more (f n) n)
 
@@ -129,7 +134,7 @@ ones_count (suc k) n h =
     omega (arith, r, s, f, b, t)
 
 -- the numbers of one word
-count_word : (ws : List ℕ) (i : ℕ) → get_or ws i 0 < 2 ^ 64 → count_of (held ws) (64 * (i + 1)) ≡ count_of (held ws) (64 * i) + ones (get_or ws i 0)
+pub count_word : (ws : List ℕ) (i : ℕ) → get_or ws i 0 < 2 ^ 64 → count_of (held ws) (64 * (i + 1)) ≡ count_of (held ws) (64 * i) + ones (get_or ws i 0)
 unfolding held
 count_word ws i h =
     let e : 64 * (i + 1) ≡ 64 * i + 64 = omega arith in

@@ -1,16 +1,18 @@
 -- Tries: what adding answers is what the try gives, and every trace is what some tries leave.
-use Rattle.std.proofs.Common.{◌≡◌, ℕ, suc, ◌+◌, ◌*◌, ◌/◌, ◌%◌, ◌<◌, Bool, true, false, cond, eqb, List, [], ◌∷◌, ◌++◌, map, length, sym, refl, ap, ◌∙◌, subst, inl, inr, arith}
-use Rattle.std.proofs.lemmas.Bool.{cases_Bool, eqb-true, eqb-false}
+use Rattle.std.proofs.Common.{◌≡◌, ℕ, suc, ◌+◌, ◌*◌, ◌/◌, ◌%◌, ◌<◌, Bool, true, false, cond, eqb, List, [], ◌∷◌, ◌++◌, map, length, Ok, Err, Result, sym, refl, ap, ◌∙◌, subst, inl, inr, arith}
+use Rattle.std.proofs.lemmas.Bool.{cases_Bool, ne_eqb, eqb-true, eqb-false}
 use Rattle.std.proofs.lemmas.Bool.Decides.{nat_tests}
 use Rattle.std.proofs.lemmas.List.{append-nil, append_assoc, take_at, get_or_at, length-append}
+use Rattle.clock.specs.declared.refusals.Refusal.{Refusal}
 use Rattle.clock.specs.Ports.{port_at}
 use Rattle.clock.specs.Refusals.{lowest}
-use Rattle.clock.proofs.Numbers.{port_back, port_low}
+use Rattle.clock.proofs.Numbers.{port_back, port_low, refusal_positive}
 use Rattle.trace.specs.declared.entries.Entry.{Entry}
 use Rattle.trace.specs.declared.entries.Entry.TheVariants.{Local, Send, Receipt}
+use Rattle.trace.specs.declared.added.Added.{Added}
 use Rattle.trace.specs.Entries.{message_number}
 use Rattle.trace.specs.Forms.{form, kind_byte, port_byte, message_bytes, entry_of, byte_conditions}
-use Rattle.trace.specs.Adding.{event_conditions, refusal_of, tried, after_from, after, Reached}
+use Rattle.trace.specs.Adding.{event_conditions, refusal_of, tried, after_from, after, Reached, Adds}
 use Rattle.trace.specs.Causality.{CausalRuns}
 use Rattle.trace.specs.Invariants.{entry_at, Acceptable, Accepted}
 use Rattle.trace.specs.DecisionLemmas.{causal}
@@ -72,6 +74,12 @@ reached_accepted t r = subst Accepted r (after_accepted [] (map form t) accepted
 
 pub causal_runs : CausalRuns
 causal_runs tries = causal (after tries) (after_accepted [] tries accepted_none)
+
+-- what adding leaves is what the try gives
+pub adds_tried : (old new : List Entry) (bytes : List ℕ) (r : Result Added Refusal) → Adds old new bytes r → new ≡ tried old bytes
+adds_tried old new bytes (Ok a) h = h.events ∙ ap (λ (n : ℕ). cond (eqb n 0) (old ++ entry_of bytes ∷ []) old) (sym h.none_applies)
+adds_tried old new bytes (Err f) h =
+    h.unchanged ∙ ap (λ (b : Bool). cond b (old ++ entry_of bytes ∷ []) old) (sym (ne_eqb (refusal_of old bytes) 0 (λ z. refusal_positive f (sym h.applies ∙ z))))
 
 -- bytes that begin with the form of an entry
 joined_number : (n : ℕ) → n / 256 * 256 + n % 256 ≡ n

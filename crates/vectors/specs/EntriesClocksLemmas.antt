@@ -1,6 +1,6 @@
 -- Every clock of entries keeps the meaning of a clock.
-use Rattle.std.specs.Prelude.{◌≡◌, ℕ, ◌+◌, ◌-◌, ◌<◌, ◌≤◌, max, true, List, slice_index}
-use Rattle.std.proofs.Common.{sym, ap, ◌∙◌, arith}
+use Rattle.std.specs.Prelude.{◌≡◌, ℕ, ◌+◌, ◌-◌, ◌<◌, ◌≤◌, min, max, true, List, length, slice_index}
+use Rattle.std.proofs.Common.{sym, ap, ap₂, ◌∙◌, arith}
 use Rattle.clock.specs.declared.ports.Port.{Port}
 use Rattle.clock.specs.Orders.{Lawful}
 use Rattle.clock.specs.Clocks.{Meaning}
@@ -62,3 +62,21 @@ module _ {Stamp : Type 0} (l : EntriesClock Stamp) (sound : Sound l) where
         let e = entries_take l.count (l.owned (l.port_of s)) (l.entries_of s) (l.entries_of m) in
         omega (arith, made_room (l.port_of s) e, largest_within l.count e (max (largest l.count (l.entries_of s)) (largest l.count (l.entries_of m)) + 1) (take_largest l.count (l.owned (l.port_of s)) (l.entries_of s) (l.entries_of m))));
   }
+
+  -- Entries e that are those of the stamp s: their room is its room, and what moves them in place moves it.
+
+  same_room : (s : Stamp) (e : List ℕ) → e ≡ l.entries_of s → length e ≡ l.count → entries_room (length e) l.ceiling e ≡ (clock_answers l).room s
+  same_room s e same len = ap (λ n. entries_room n l.ceiling e) len ∙ ap (entries_room l.count l.ceiling) same
+
+  pub clock_stepped : (s : Stamp) (own : ℕ) (e t : List ℕ) → e ≡ l.entries_of s → length e ≡ l.count → own ≡ l.owned (l.port_of s) → 1 ≤ entries_room (length e) l.ceiling e → t ≡ one_more (length e) own e → ((1 ≤ (clock_answers l).room s) × (l.stamp_of (l.port_of s) t ≡ (clock_answers l).step s)) × (clock_before l s (l.stamp_of (l.port_of s) t) ≡ true)
+  clock_stepped s own e t same len owned roomy made =
+      let room : 1 ≤ (clock_answers l).room s = omega (arith, roomy, same_room s e same len) in
+      let next : l.stamp_of (l.port_of s) t ≡ (clock_answers l).step s = ap (l.stamp_of (l.port_of s)) (made ∙ ap (λ n. one_more n own e) len ∙ ap (λ o. one_more l.count o e) owned ∙ ap (one_more l.count (l.owned (l.port_of s))) same) in
+      ((room, next), ap (clock_before l s) next ∙ clock_meaning.step_before s room)
+
+  pub clock_taken : (s m : Stamp) (own : ℕ) (e f t : List ℕ) → e ≡ l.entries_of s → f ≡ l.entries_of m → length e ≡ l.count → length f ≡ l.count → own ≡ l.owned (l.port_of s) → 1 ≤ min (entries_room (length e) l.ceiling e) (entries_room (length f) l.ceiling f) → t ≡ entries_take (length e) own e f → ((1 ≤ (clock_answers l).room s) × (1 ≤ (clock_answers l).room m) × (l.stamp_of (l.port_of s) t ≡ (clock_answers l).take s m)) × (clock_before l s (l.stamp_of (l.port_of s) t) ≡ true) × (clock_before l m (l.stamp_of (l.port_of s) t) ≡ true)
+  clock_taken s m own e f t same message len length_f owned roomy made =
+      let room : 1 ≤ (clock_answers l).room s = omega (arith, roomy, same_room s e same len) in
+      let message_room : 1 ≤ (clock_answers l).room m = omega (arith, roomy, same_room m f message length_f) in
+      let next : l.stamp_of (l.port_of s) t ≡ (clock_answers l).take s m = ap (l.stamp_of (l.port_of s)) (made ∙ ap (λ n. entries_take n own e f) len ∙ ap (λ o. entries_take l.count o e f) owned ∙ ap₂ (entries_take l.count (l.owned (l.port_of s))) same message) in
+      ((room, message_room, next), ap (clock_before l s) next ∙ clock_meaning.take_before s m room message_room, ap (clock_before l m) next ∙ clock_meaning.take_after s m room message_room)

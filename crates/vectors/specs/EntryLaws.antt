@@ -1,8 +1,8 @@
 -- Entries of stamps: what the definitions say of each entry.
 use Rattle.std.specs.Prelude.{◌≡◌, ℕ, zero, suc, ◌+◌, ◌<◌, ◌≤◌, max, Bool, true, false, cond, ◌≢◌, List, [], ◌∷◌, length, map, fold, Decides, MatchBool, ◌==◌, nat_lt, slice_index, slice_index_or, slice_set, refl}
 use Rattle.std.specs.List.{zip, AllWithin, HoldsAt}
-use Rattle.std.proofs.Common.{sym, ap, ◌∙◌, ⊎_elim, arith, length-set, get_or-set_same, get_or-set_other}
-use Rattle.std.proofs.lemmas.Bool.{and_from, and_parts, cases_eq, cases_Bool, ltb-true, lt-ltb, eq-eqb, ne_eqb, cond-true, cond-false}
+use Rattle.std.proofs.Common.{sym, ap, ◌∙◌, ⊎_elim, arith, add-one, length-set, get_or-set_same, get_or-set_other}
+use Rattle.std.proofs.lemmas.Bool.{and_from, and_parts, cases_eq, cases_Bool, le-leb, ltb-true, lt-ltb, eq-eqb, ne_eqb, cond-true, cond-false}
 use Rattle.std.proofs.lemmas.List.{get_or-map}
 use Rattle.std.proofs.lemmas.Slice.Zip.{length-zip, get_or-zip}
 use Rattle.std.proofs.lemmas.List.FromFn.{get_or-map-range_with_len, fill_by_all}
@@ -14,6 +14,18 @@ use Rattle.vectors.specs.Entries.{none_exceeds, largest, zeros, greater, one_mor
 none_decides : (n : ℕ) (a b : List ℕ) → Decides (none_exceeds n a b) ((k : ℕ) → k < n → slice_index a k ≤ slice_index b k)
 unfolding none_exceeds
 none_decides n a b = each_decides (λ k. slice_index a k) (λ k. slice_index b k) n
+
+pub none_first : (a b : List ℕ) → none_exceeds 0 a b ≡ true
+unfolding none_exceeds
+none_first a b = refl
+
+pub none_next : (i : ℕ) (a b : List ℕ) → none_exceeds i a b ≡ true → slice_index a i ≤ slice_index b i → none_exceeds (i + 1) a b ≡ true
+unfolding none_exceeds
+none_next i a b e h = rw add-one (and_from _ _ (le-leb _ _ h) e)
+
+pub none_fails : (n i : ℕ) (a b : List ℕ) → i < n → slice_index b i < slice_index a i → none_exceeds n a b ≡ false
+none_fails n i a b l h =
+    ⊎_elim (λ e. let x = (none_decides n a b).0 e i l in absurd (omega arith)) (λ e. e) (cases_Bool (none_exceeds n a b))
 
 -- a test of each two entries, one after the other, answers whether none exceeds
 module _ {Counter : Type 0} (value : Counter → ℕ) (n : ℕ) (a b : List Counter) (default : Counter) (len_a : length a ≡ n) (len_b : length b ≡ n) where
@@ -27,9 +39,17 @@ module _ {Counter : Type 0} (value : Counter → ℕ) (n : ℕ) (a b : List Coun
   none_tested false h =
       let l : h.0 < n = omega (arith, h.1, length-zip a b) in
       let at = pair_at h.0 l in
-      ⊎_elim (λ e. let x = (none_decides n (map value a) (map value b)).0 e h.0 l in absurd (omega (arith, at.0, at.1, h.2 (default, default)))) (λ e. sym e) (cases_Bool (none_exceeds n (map value a) (map value b)))
+      sym (none_fails n h.0 (map value a) (map value b) l (omega (arith, at.0, at.1, h.2 (default, default))))
 
 -- the largest entry
+
+pub largest_first : (e : List ℕ) → largest 0 e ≡ 0
+unfolding largest
+largest_first e = refl
+
+pub largest_next : (i : ℕ) (e : List ℕ) → largest (i + 1) e ≡ max (slice_index e i) (largest i e)
+unfolding largest
+largest_next i e = rw add-one refl
 
 largest_cons : (n x : ℕ) (e : List ℕ) → largest (suc n) (x ∷ e) ≡ max x (largest n e)
 unfolding largest
@@ -111,9 +131,12 @@ greater_next i v a b t l new h = record {
   kept = λ k le. get_or-set_other t i k v 0 (λ q. omega arith) ∙ h.kept k (omega arith);
 }
 
-pub greater_all : (n i : ℕ) (a b t : List ℕ) → n ≤ i → length t ≡ n → GreaterBelow i a b t → t ≡ greater n a b
+pub greater_filled : (n : ℕ) (a b t : List ℕ) → length t ≡ n → ((k : ℕ) → k < n → slice_index t k ≡ max (slice_index a k) (slice_index b k)) → t ≡ greater n a b
 unfolding greater
-greater_all n i a b t le l h = fill_by_all (λ j. max (slice_index a j) (slice_index b j)) t n 0 l (λ k lt. h.done k (omega arith))
+greater_filled n a b t l h = fill_by_all (λ j. max (slice_index a j) (slice_index b j)) t n 0 l h
+
+pub greater_all : (n i : ℕ) (a b t : List ℕ) → n ≤ i → length t ≡ n → GreaterBelow i a b t → t ≡ greater n a b
+greater_all n i a b t le l h = greater_filled n a b t l (λ k lt. h.done k (omega arith))
 
 -- a step and a take stay within what the largest entries leave
 

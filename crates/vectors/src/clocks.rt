@@ -68,14 +68,13 @@ impl<C: Counter, const R: usize> EntriesVector<C, R> {
         usize::from(port.number()) % R
     }
 
-    // Raises the own entry of the stamp's port by 1.
-    fn advance(&self, s: &mut EntriesStamp<C, R>)
-        requires { largest R (map C.value s.old.entries) < C.CEILING }
-        ensures port { s.new.port ≡ s.old.port }
-        ensures entries { map C.value s.new.entries ≡ one_more R (shared R s.old.port) (map C.value s.old.entries) }
+    // Raises by 1 the entry that the port owns.
+    fn advance(&self, entries: &mut [C; R], port: Port)
+        requires { largest R (map C.value entries.old) < C.CEILING }
+        ensures { map C.value entries.new ≡ one_more R (shared R port) (map C.value entries.old) }
     {
-        let own = self.owned(s.port);
-        s.entries[own] = s.entries[own].next();
+        let own = self.owned(port);
+        entries[own] = entries[own].next();
     }
 }
 
@@ -120,7 +119,7 @@ impl<C: Counter, const R: usize> Clock for EntriesVector<C, R> {
         if self.room(s) == 0 {
             return Err(Refusal::NoRoom);
         }
-        self.advance(s);
+        self.advance(&mut s.entries, s.port);
         Ok(())
     }
 
@@ -128,8 +127,9 @@ impl<C: Counter, const R: usize> Clock for EntriesVector<C, R> {
         if self.room(s) == 0 || self.room(m) == 0 {
             return Err(Refusal::NoRoom);
         }
+        let taker = s.port;
         raise(&mut s.entries, &m.entries);
-        self.advance(s);
+        self.advance(&mut s.entries, taker);
         Ok(())
     }
 }

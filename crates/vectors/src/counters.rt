@@ -1,7 +1,7 @@
-ghost use Rattle.std.specs.Prelude.{◌≡◌, ℕ, ◌+◌, ◌≤◌, min, Decides, refl};
+ghost use Rattle.std.specs.Prelude.{◌≡◌, ℕ, ◌+◌, ◌<◌, ◌≤◌, Decides, refl};
 ghost use Rattle.std.proofs.Common.{rules};
 
-// An entry of a stamp: it holds a number, and raising it stops at a ceiling of at least 255. Numbers of 8 and of 16 bits
+// An entry of a stamp: it holds a number, and is raised only below a ceiling of at least 255. Numbers of 8 and of 16 bits
 // are such entries; the trait has no name outside the crate, so there are no others.
 pub trait Counter: Copy + Eq {
     ghost CEILING: { ℕ };
@@ -20,9 +20,10 @@ pub trait Counter: Copy + Eq {
     fn get(self) -> u16
         ensures { result ≡ value self };
 
-    // The counter that holds 1 more, but at most the ceiling.
+    // The counter that holds 1 more; asked only below the ceiling.
     fn next(self) -> Self
-        ensures { result ≡ of (min (value self + 1) CEILING) };
+        requires { value self < CEILING }
+        ensures { result ≡ of (value self + 1) };
 
     ghost floor: { 255 ≤ CEILING };
 
@@ -52,7 +53,7 @@ impl Counter for u8 {
     }
 
     fn next(self) -> u8 {
-        self.saturating_add(1)
+        self + 1
     }
 
     ghost floor = { Prim.search rules };
@@ -82,7 +83,7 @@ impl Counter for u16 {
     }
 
     fn next(self) -> u16 {
-        self.saturating_add(1)
+        self + 1
     }
 
     ghost floor = { Prim.search rules };

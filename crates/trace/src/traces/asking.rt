@@ -24,7 +24,7 @@ impl Trace {
     pub fn happened_before(&self, a: u16, b: u16) -> Result<bool, Refusal>
         ensures { BeforeAnswer (events_of self.now) a b result }
     {
-        if usize::from(a) >= self.entries.len() {
+        if usize::from(a) >= self.causes.len() {
             return Err(Refusal::NoSuchEvent);
         }
         Ok(self.causes_of(b)?.row.has(a))
